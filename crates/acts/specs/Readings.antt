@@ -97,7 +97,7 @@ module _ (s : List ℕ) (es : List Element) (D : Decisions) where
   closed-acts : (k at after : ℕ) {z y : State} → Few z → Closes s es D k at after z y → Acts s es D Few z y
   closed-acts k at after f r =
       let a = ended-acts TAGLVL at (r .ended) f in
-      let w = state (r .outer) (r .outers) (r .here .events ++ endWritten (r .here .current .number) at after ∷ []) in
+      let w = state (r .outer) (r .outers) (r .here .events ++ endWritten (r .here .current .element) at after ∷ []) in
       acts-then a
       (subst (λ (v : State). Acts s es D Few (r .here) v) (ap (λ (n : ℕ). state (r .outer) (r .outers) (r .here .events ++ endWritten n at after ∷ [])) (r .named) ∙ sym (r .is))
       (next {z = r .here} (acts-last a) (ends (r .outer) (r .outers) at after (r .inside) (r .complete)) (still {z = w} (omega (arith, acts-last a, ap (λ (l : List Open). length l) (r .inside))))))

@@ -39,8 +39,8 @@ limited-many at z e = rw (e, limited)
 -- Ends are inferred one after another, each of an element that is complete and whose end is "O".
 pub data Ended (s : List ℕ) (es : List Element) (D : Decisions) (at : ℕ) : State → State → Type 0 where
   all-ended : {z : State} → Ended s es D at z z
-  ends-then : {z y : State} (u : Open) (us : List Open) → z .around ≡ u ∷ us → isComplete s es D (z .current) ≡ true → endO es (z .current .number) ≡ true
-      → Ended s es D at (state u us (z .events ++ endInferred (z .current .number) at ∷ [])) y → Ended s es D at z y
+  ends-then : {z y : State} (u : Open) (us : List Open) → z .around ≡ u ∷ us → isComplete s es D (z .current) ≡ true → endO es (z .current .element) ≡ true
+      → Ended s es D at (state u us (z .events ++ endInferred (z .current .element) at ∷ [])) y → Ended s es D at z y
 
 -- Starts are inferred, one in the other.
 pub data Started (s : List ℕ) (es : List Element) (D : Decisions) (at : ℕ) : State → State → Type 0 where
@@ -111,8 +111,8 @@ module _ (s : List ℕ) (es : List Element) (D : Decisions) where
           record { between = z; ended = all-ended; here = inferStarts s es D at (k ∷ ks) z; started = starts-are t at (k ∷ ks) z l; fits = starts-fit t at (k ∷ ks) z l; taken = sym j }
 
   -- An end is inferred first.
-  ends-first : (t : Token) (at : ℕ) (u : Open) (around : List Open) (o : Open) (ev : List Event) (y : State) → isComplete s es D o ≡ true → endO es (o .number) ≡ true
-      → Comes t at (state u around (ev ++ endInferred (o .number) at ∷ [])) y → Comes t at (state o (u ∷ around) ev) y
+  ends-first : (t : Token) (at : ℕ) (u : Open) (around : List Open) (o : Open) (ev : List Event) (y : State) → isComplete s es D o ≡ true → endO es (o .element) ≡ true
+      → Comes t at (state u around (ev ++ endInferred (o .element) at ∷ [])) y → Comes t at (state o (u ∷ around) ev) y
   ends-first t at u around o ev y c e h =
       record { between = h .between; ended = ends-then {z = state o (u ∷ around) ev} u around refl c e (h .ended); here = h .here; started = h .started; fits = h .fits; taken = h .taken }
 
@@ -123,21 +123,21 @@ module _ (s : List ℕ) (es : List Element) (D : Decisions) where
       by-inward : (w : Inward) → inward s es D t at (state o [] ev) ≡ w → _≡_ {A = Reading State} (elim w [ settled z ↦ got z | stuck ↦ refused 12 at ]) (got y) → Comes t at (state o [] ev) y
       by-inward (settled z) i e = let j : z ≡ y = cc in inward-comes t at (state o [] ev) y (i ∙ ap settled j)
       by-inward stuck i e = absurd (let z : _≡_ {A = ℕ} 0 1 = cc in omega arith)
-  settleFrom-comes t at (u ∷ around) o ev y = by-inward (inward s es D t at (state o (u ∷ around) ev)) refl (settleFrom-comes t at around u (ev ++ endInferred (o .number) at ∷ []) y)
+  settleFrom-comes t at (u ∷ around) o ev y = by-inward (inward s es D t at (state o (u ∷ around) ev)) refl (settleFrom-comes t at around u (ev ++ endInferred (o .element) at ∷ []) y)
     where
       later : Reading State
-      later = settleFrom s es D t at around u (ev ++ endInferred (o .number) at ∷ [])
+      later = settleFrom s es D t at around u (ev ++ endInferred (o .element) at ∷ [])
 
-      by-test : (b : Bool) → (isComplete s es D o && (endO es (o .number) && leb 1 (u .number))) ≡ b → (later ≡ got y → Comes t at (state u around (ev ++ endInferred (o .number) at ∷ [])) y)
+      by-test : (b : Bool) → (isComplete s es D o && (endO es (o .element) && leb 1 (u .element))) ≡ b → (later ≡ got y → Comes t at (state u around (ev ++ endInferred (o .element) at ∷ [])) y)
           → _≡_ {A = Reading State} (elim b [ true ↦ later | false ↦ refused 12 at ]) (got y) → Comes t at (state o (u ∷ around) ev) y
-      by-test true q ih e = ends-first t at u around o ev y (and-left (isComplete s es D o) _ q) (and-left (endO es (o .number)) _ (and-right (isComplete s es D o) _ q)) (ih e)
+      by-test true q ih e = ends-first t at u around o ev y (and-left (isComplete s es D o) _ q) (and-left (endO es (o .element)) _ (and-right (isComplete s es D o) _ q)) (ih e)
       by-test false q ih e = absurd (let z : _≡_ {A = ℕ} 0 1 = cc in omega arith)
 
-      by-inward : (w : Inward) → inward s es D t at (state o (u ∷ around) ev) ≡ w → (later ≡ got y → Comes t at (state u around (ev ++ endInferred (o .number) at ∷ [])) y)
-          → _≡_ {A = Reading State} (elim w [ settled z ↦ got z | stuck ↦ elim (isComplete s es D o && (endO es (o .number) && leb 1 (u .number))) [ true ↦ later | false ↦ refused 12 at ] ]) (got y)
+      by-inward : (w : Inward) → inward s es D t at (state o (u ∷ around) ev) ≡ w → (later ≡ got y → Comes t at (state u around (ev ++ endInferred (o .element) at ∷ [])) y)
+          → _≡_ {A = Reading State} (elim w [ settled z ↦ got z | stuck ↦ elim (isComplete s es D o && (endO es (o .element) && leb 1 (u .element))) [ true ↦ later | false ↦ refused 12 at ] ]) (got y)
           → Comes t at (state o (u ∷ around) ev) y
       by-inward (settled z) i ih e = let j : z ≡ y = cc in inward-comes t at (state o (u ∷ around) ev) y (i ∙ ap settled j)
-      by-inward stuck i ih e = by-test (isComplete s es D o && (endO es (o .number) && leb 1 (u .number))) refl ih e
+      by-inward stuck i ih e = by-test (isComplete s es D o && (endO es (o .element) && leb 1 (u .element))) refl ih e
 
   settle-comes : (t : Token) (at : ℕ) (z : State) → Gives (Comes t at z) (settle s es D t at z)
   unfolding settle
@@ -190,9 +190,9 @@ module _ (s : List ℕ) (es : List Element) (D : Decisions) where
   -- Ends
 
   -- An end that is left out is inferred of an element that is complete, with end "O".
-  pub leftOut : (at : ℕ) (o : Open) → Gives (λ (e : Event). (e ≡ endInferred (o .number) at) × (isComplete s es D o ≡ true) × (endO es (o .number) ≡ true)) (endLeftOut s es D at o)
+  pub leftOut : (at : ℕ) (o : Open) → Gives (λ (e : Event). (e ≡ endInferred (o .element) at) × (isComplete s es D o ≡ true) × (endO es (o .element) ≡ true)) (endLeftOut s es D at o)
   unfolding endLeftOut
-  leftOut at o = either (isComplete s es D o) (λ c. either (endO es (o .number)) (λ e. reads (refl, c, e)) (λ e. stops tt)) (λ c. stops tt)
+  leftOut at o = either (isComplete s es D o) (λ c. either (endO es (o .element)) (λ e. reads (refl, c, e)) (λ e. stops tt)) (λ c. stops tt)
 
   -- What an end tag leaves: ends were inferred, and then the element that it names was closed.
   pub record Closes (k at after : ℕ) (z y : State) : Type 0 where
@@ -201,7 +201,7 @@ module _ (s : List ℕ) (es : List Element) (D : Decisions) where
     pub outer : Open
     pub outers : List Open
     pub inside : here .around ≡ outer ∷ outers
-    pub named : here .current .number ≡ k
+    pub named : here .current .element ≡ k
     pub complete : isComplete s es D (here .current) ≡ true
     pub is : y ≡ state outer outers (here .events ++ endWritten k at after ∷ [])
 
@@ -209,9 +209,9 @@ module _ (s : List ℕ) (es : List Element) (D : Decisions) where
   unfolding closeFrom
   closeFrom-closes k at after [] o ev = stops tt
   closeFrom-closes k at after (u ∷ around) o ev =
-      either (eqb (o .number) k)
+      either (eqb (o .element) k)
       (λ e. either (isComplete s es D o)
-      (λ c. reads (record { here = state o (u ∷ around) ev; ended = all-ended; outer = u; outers = around; inside = refl; named = eqb-true (o .number) k e; complete = c; is = refl }))
+      (λ c. reads (record { here = state o (u ∷ around) ev; ended = all-ended; outer = u; outers = around; inside = refl; named = eqb-true (o .element) k e; complete = c; is = refl }))
       (λ c. stops tt))
       (λ e. on (leftOut at o) λ x l.
       so (closeFrom-closes k at after around u (ev ++ x ∷ [])) (λ n j i. i)

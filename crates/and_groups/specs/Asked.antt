@@ -7,7 +7,7 @@ use Rattle.rules.specs.Walk.{Group}
 use Rattle.rules.specs.Bytes.{GRPGTCNT}
 use Rattle.layout.specs.Sizes.{AND-GROUPS, ENDING}
 use Rattle.model_sets.specs.Sets.{hasM}
-use Rattle.and_laws.specs.Req.{restReq}
+use Rattle.and_laws.specs.Req.{requiredRest}
 use Rattle.and_laws.specs.Levels.{blocksIn, loneIn}
 use Rattle.and_laws.specs.Ranked.{Level, groupsOf, Rising}
 use Rattle.member_laws.specs.Members.{groupAt, isOwn, AllSets, Ordered, Grouped, Chain, begunAt, Marked, AllMarked}
@@ -31,7 +31,7 @@ pub record Awaits (M begun : List ℕ) (level e : ℕ) (ls : List Level) (l : Le
 -- Which of the groups around p blocks: none, or the first that lacks a member, and then r is the first that it lacks.
 pub data Blocking (M begun : List ℕ) (level e : ℕ) (g : Group) (p : ℕ) (S : ℕ → Bool) (ls : List Level) (r : ℕ) : Type 0 where
   free : r ≡ 0 → blocksIn (groupsOf ls) p S ≡ false → Blocking M begun level e g p S ls r
-  held : 1 ≤ r → (l : Level) → Awaits M begun level e ls l r → Grouped M e l → Marked begun level M e S l → IsAround g 0 p l → blocksIn (groupsOf ls) p S ≡ true → loneIn (groupsOf ls) S ≡ restReq (l .members) S → Blocking M begun level e g p S ls r
+  held : 1 ≤ r → (l : Level) → Awaits M begun level e ls l r → Grouped M e l → Marked begun level M e S l → IsAround g 0 p l → blocksIn (groupsOf ls) p S ≡ true → loneIn (groupsOf ls) S ≡ requiredRest (l .members) S → Blocking M begun level e g p S ls r
 
 pub record Blocks (M : List ℕ) (e inner : ℕ) (b : Bits) (r : ℕ) : Type 0 where
   pub small : r ≤ 128
@@ -47,4 +47,4 @@ pub record Alone (M : List ℕ) (e x y : ℕ) (r : Bool) : Type 0 where
 -- The place that the member x requires, for which a group around p waits, where it is the only one of its group that has not begun, or 0.
 pub record Due (M : List ℕ) (e inner x : ℕ) (b : Bits) (r : ℕ) : Type 0 where
   pub small : r ≤ GRPGTCNT
-  pub says : AllSets M e → (begun : List ℕ) (level : ℕ) → Has b (begunAt begun level) → (p : ℕ) (S : ℕ → Bool) (c : ℕ) (ls : List Level) → Chain M e p true inner ls → Rising 0 c ls → EachLevel (λ (l : Level). hasM (l .members) p ≡ true) ls → (l : Level) → Awaits M begun level e ls l x → Grouped M e l → Marked begun level M e S l → restReq (l .members) S ≤ GRPGTCNT → r ≡ restReq (l .members) S
+  pub says : AllSets M e → (begun : List ℕ) (level : ℕ) → Has b (begunAt begun level) → (p : ℕ) (S : ℕ → Bool) (c : ℕ) (ls : List Level) → Chain M e p true inner ls → Rising 0 c ls → EachLevel (λ (l : Level). hasM (l .members) p ≡ true) ls → (l : Level) → Awaits M begun level e ls l x → Grouped M e l → Marked begun level M e S l → requiredRest (l .members) S ≤ GRPGTCNT → r ≡ requiredRest (l .members) S

@@ -12,7 +12,7 @@ use Rattle.rules.specs.Bytes.{GRPGTCNT}
 use Rattle.layout.specs.Sizes.{ENDING}
 use Rattle.basic_laws.specs.Truth.{and-left, and-right, bool-cases}
 use Rattle.model_sets.specs.Sets.{hasM, amount}
-use Rattle.and_laws.specs.Req.{restReq}
+use Rattle.and_laws.specs.Req.{requiredRest}
 use Rattle.and_laws.specs.Ranked.{Level, Rising}
 use Rattle.member_laws.specs.Members.{groupAt, firstAt, dueAt, amongAt, isOwn, AllSets, Grouped, Chain, begunAt, Marked}
 use Rattle.member_laws.specs.Numbered.{rest-one, rest-two}
@@ -40,7 +40,7 @@ module _ (M begun : List ℕ) (level e : ℕ) (ls : List Level) (l : Level) (kep
   inside : (n : ℕ) → isOwn M e (l .number) n ≡ true → n - first < amount (l .members)
   inside n o = omega (arith, own-range M e l kept n o)
 
-  rest-alone : ((n : ℕ) → isOwn M e (l .number) n ≡ true → x < n → B n ≡ true) → restReq (l .members) S ≡ dueAt M e x
+  rest-alone : ((n : ℕ) → isOwn M e (l .number) n ≡ true → x < n → B n ≡ true) → requiredRest (l .members) S ≡ dueAt M e x
   rest-alone f =
       rest-one first (l .members) S B (dueAt M e) marked (numbered-due M e l kept) (x - first) (inside x (waits .own)) (ap B (at x (waits .own)) ∙ waits .unset) only
       ∙ ap (dueAt M e) (at x (waits .own))
@@ -56,16 +56,16 @@ module _ (M begun : List ℕ) (level e : ℕ) (ls : List Level) (l : Level) (kep
           go (no z) (yes d) = absurd (false≢true (sym t ∙ waits .before (first + i) own d))
           go (no z) (no d) = absurd (false≢true (sym t ∙ f (first + i) own (omega arith)))
 
-  rest-other : (n : ℕ) → isOwn M e (l .number) n ≡ true → x < n → B n ≡ false → restReq (l .members) S ≡ 0
+  rest-other : (n : ℕ) → isOwn M e (l .number) n ≡ true → x < n → B n ≡ false → requiredRest (l .members) S ≡ 0
   rest-other n own less t =
       rest-two first (l .members) S B (dueAt M e) marked (numbered-due M e l kept) (x - first) (n - first) (λ z. omega (arith, at n own, at x (waits .own))) (inside x (waits .own)) (inside n own) (ap B (at x (waits .own)) ∙ waits .unset) (ap B (at n own) ∙ t)
 
 -- This is read of the sets.
 module _ (M : List ℕ) (e inner x : ℕ) (b : Bits) (ends : ENDING < inner) where
-  due-by : (r : ℕ) → r ≤ GRPGTCNT → ((sets : AllSets M e) (begun : List ℕ) (level : ℕ) → Has b (begunAt begun level) → (p c : ℕ) (k : Level) (ks : List Level) → Chain M e p true inner (k ∷ ks) → Rising 0 c (k ∷ ks) → EachLevel (λ (l : Level). hasM (l .members) p ≡ true) (k ∷ ks) → (l : Level) (S : ℕ → Bool) → Awaits M begun level e (k ∷ ks) l x → Grouped M e l → Marked begun level M e S l → restReq (l .members) S ≤ GRPGTCNT → r ≡ restReq (l .members) S) → Due M e inner x b r
+  due-by : (r : ℕ) → r ≤ GRPGTCNT → ((sets : AllSets M e) (begun : List ℕ) (level : ℕ) → Has b (begunAt begun level) → (p c : ℕ) (k : Level) (ks : List Level) → Chain M e p true inner (k ∷ ks) → Rising 0 c (k ∷ ks) → EachLevel (λ (l : Level). hasM (l .members) p ≡ true) (k ∷ ks) → (l : Level) (S : ℕ → Bool) → Awaits M begun level e (k ∷ ks) l x → Grouped M e l → Marked begun level M e S l → requiredRest (l .members) S ≤ GRPGTCNT → r ≡ requiredRest (l .members) S) → Due M e inner x b r
   due-by r small f = record { small = small; says = λ sets begun level has p S c ls chain rising have l waits kept marked few. go sets begun level has p c ls chain rising have l S waits kept marked few }
     where
-      go : (sets : AllSets M e) (begun : List ℕ) (level : ℕ) → Has b (begunAt begun level) → (p c : ℕ) (ls : List Level) → Chain M e p true inner ls → Rising 0 c ls → EachLevel (λ (l : Level). hasM (l .members) p ≡ true) ls → (l : Level) (S : ℕ → Bool) → Awaits M begun level e ls l x → Grouped M e l → Marked begun level M e S l → restReq (l .members) S ≤ GRPGTCNT → r ≡ restReq (l .members) S
+      go : (sets : AllSets M e) (begun : List ℕ) (level : ℕ) → Has b (begunAt begun level) → (p c : ℕ) (ls : List Level) → Chain M e p true inner ls → Rising 0 c ls → EachLevel (λ (l : Level). hasM (l .members) p ≡ true) ls → (l : Level) (S : ℕ → Bool) → Awaits M begun level e ls l x → Grouped M e l → Marked begun level M e S l → requiredRest (l .members) S ≤ GRPGTCNT → r ≡ requiredRest (l .members) S
       go sets begun level has p c [] chain rising have l S waits kept marked few = absurd (omega arith)
       go sets begun level has p c (k ∷ ks) chain rising have l S waits kept marked few = f sets begun level has p c k ks chain rising have l S waits kept marked few
 
@@ -93,7 +93,7 @@ module _ (M : List ℕ) (e inner x : ℕ) (b : Bits) (ends : ENDING < inner) whe
     pub due-other : r ≡ false → Due M e inner x b 0
     due-other z = due-by 0 (omega arith) (λ sets begun level has p c k ks chain rising have l S waits kept marked few. sym (go begun level (k ∷ ks) l S (chain-kept M e p true inner (k ∷ ks) chain) waits kept marked (next sets begun level has p c k ks chain rising have)))
       where
-        go : (begun : List ℕ) (level : ℕ) (ls : List Level) (l : Level) (S : ℕ → Bool) → EachLevel (Grouped M e) ls → Awaits M begun level e ls l x → Grouped M e l → Marked begun level M e S l → having.First (waiting begun level ls) y → restReq (l .members) S ≡ 0
+        go : (begun : List ℕ) (level : ℕ) (ls : List Level) (l : Level) (S : ℕ → Bool) → EachLevel (Grouped M e) ls → Awaits M begun level e ls l x → Grouped M e l → Marked begun level M e S l → having.First (waiting begun level ls) y → requiredRest (l .members) S ≡ 0
         go begun level ls l S all waits kept marked (having.none w f) = absurd (omega (arith, alone .no z))
         go begun level ls l S all waits kept marked (having.some u v w f) =
             let i = and-left (anyOwn M e y ls && not (begunAt begun level y)) _ w in
@@ -104,7 +104,7 @@ module _ (M : List ℕ) (e inner x : ℕ) (b : Bits) (ends : ENDING < inner) whe
 
     -- No other has.
     module _ (q : ℕ) (read : q ≡ dueAt M e x) (z : r ≡ true) where
-      is-due : (begun : List ℕ) (level : ℕ) (ls : List Level) (l : Level) (S : ℕ → Bool) → Awaits M begun level e ls l x → Grouped M e l → Marked begun level M e S l → having.First (waiting begun level ls) y → q ≡ restReq (l .members) S
+      is-due : (begun : List ℕ) (level : ℕ) (ls : List Level) (l : Level) (S : ℕ → Bool) → Awaits M begun level e ls l x → Grouped M e l → Marked begun level M e S l → having.First (waiting begun level ls) y → q ≡ requiredRest (l .members) S
       is-due begun level ls l S waits kept marked found = read ∙ sym (rest-alone M begun level e ls l kept S marked x waits (λ m own less. bool-cases (begunAt begun level m) (λ t. t) (λ t. absurd (go m own less t found))))
         where
           go : (m : ℕ) → isOwn M e (l .number) m ≡ true → x < m → begunAt begun level m ≡ false → having.First (waiting begun level ls) y → ⊥

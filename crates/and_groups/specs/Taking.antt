@@ -13,7 +13,7 @@ use Rattle.model_sets.specs.Sets.{Numbered, size, has, hasM}
 use Rattle.and_laws.specs.Base.{mem}
 use Rattle.and_laws.specs.Sets.{meets, Good}
 use Rattle.and_laws.specs.Numbers.{Guarded, has-range, numbered-good}
-use Rattle.and_laws.specs.Req.{restReq}
+use Rattle.and_laws.specs.Req.{requiredRest}
 use Rattle.and_laws.specs.Levels.{blocksIn, loneIn}
 use Rattle.and_laws.specs.Ranked.{count, Level, levels, groupsOf, levels-around, levels-rise}
 use Rattle.and_laws.specs.Taken.{IsLast, last-taken}
@@ -54,12 +54,12 @@ ready-start M level e u before b z is = record { B = λ (n : ℕ). false; bits =
     each taken y (l ∷ ls) = (at-each _ _ (λ (n : ℕ) (k : Group). false ≡ meets k (mem taken)) (l .members) (λ n k i. sym (ap (λ (s : List ℕ). meets k (mem s)) y ∙ meets-none k)), each taken y ls)
 
 -- The place that a group requires is one of the model's.
-rest-small : (g : Group) → Numbered g 1 → size g ≤ GRPGTCNT → (p : ℕ) (l : Level) → IsAround g 0 p l → (S : ℕ → Bool) → restReq (l .members) S ≤ GRPGTCNT
+rest-small : (g : Group) → Numbered g 1 → size g ≤ GRPGTCNT → (p : ℕ) (l : Level) → IsAround g 0 p l → (S : ℕ → Bool) → requiredRest (l .members) S ≤ GRPGTCNT
 rest-small g numbered few p l (i, x) S = go (rest-own (l .members) S)
   where
-    go : OwnOr0 (hasM (l .members)) (restReq (l .members) S) → restReq (l .members) S ≤ GRPGTCNT
+    go : OwnOr0 (hasM (l .members)) (requiredRest (l .members) S) → requiredRest (l .members) S ≤ GRPGTCNT
     go (inl z) = omega arith
-    go (inr y) = omega (arith, has-range g 1 numbered (restReq (l .members) S) (level-has g 0 l i (restReq (l .members) S) y))
+    go (inr y) = omega (arith, has-range g 1 numbered (requiredRest (l .members) S) (level-has g 0 l i (requiredRest (l .members) S) y))
 
 -- The place is taken.
 module _ (M : List ℕ) (level e u p : ℕ) (before after : List ℕ) (h : ℕ) (b now : Bits) (ready : Ready M level e u before b) (read : h ≡ holderAt M e p) (enters : Enters M e (h % ENDING) b now) (puts : Puts level now before after) where

@@ -37,28 +37,28 @@ runs-must g p f (once {w} x) = f w x
 runs-must g p f (more s t e x r) = subst (λ (l : List ℕ). mem l p ≡ true) (sym e) (mem-left s t p (f s x))
 
 mutual
-  pub must-walk : (g : Group) (p : ℕ) → passes g p ≡ true → (w : List ℕ) → Walk g w → mem w p ≡ true
-  must-walk (place n) p e w x = subst (λ (l : List ℕ). mem l p ≡ true) (sym x) (or-left _ e)
-  must-walk (seq g h) p e w (s, t, c, x, y) =
-      subst (λ (l : List ℕ). mem l p ≡ true) (sym c) (or-cases (passes g p) _ (λ i. mem-left s t p (must-walk g p i s x)) (λ i. mem-right s t p (must-walk h p i t y)) e)
-  must-walk (alt g h) p e w (inl x) = must-walk g p (and-left (passes g p) _ e) w x
-  must-walk (alt g h) p e w (inr x) = must-walk h p (and-right (passes g p) _ e) w x
-  must-walk (opt g) p e w x = absurd (false≢true e)
-  must-walk (plus g) p e w x = runs-must g p (λ w x. must-walk g p e w x) x
-  must-walk (and m) p e w x = let (bs, q, o) = walk-arr m w x in subst (λ (l : List ℕ). mem l p ≡ true) (sym q) (must-arr m p e bs o)
+  pub requiredFirst-walk : (g : Group) (p : ℕ) → passes g p ≡ true → (w : List ℕ) → Walk g w → mem w p ≡ true
+  requiredFirst-walk (place n) p e w x = subst (λ (l : List ℕ). mem l p ≡ true) (sym x) (or-left _ e)
+  requiredFirst-walk (seq g h) p e w (s, t, c, x, y) =
+      subst (λ (l : List ℕ). mem l p ≡ true) (sym c) (or-cases (passes g p) _ (λ i. mem-left s t p (requiredFirst-walk g p i s x)) (λ i. mem-right s t p (requiredFirst-walk h p i t y)) e)
+  requiredFirst-walk (alt g h) p e w (inl x) = requiredFirst-walk g p (and-left (passes g p) _ e) w x
+  requiredFirst-walk (alt g h) p e w (inr x) = requiredFirst-walk h p (and-right (passes g p) _ e) w x
+  requiredFirst-walk (opt g) p e w x = absurd (false≢true e)
+  requiredFirst-walk (plus g) p e w x = runs-must g p (λ w x. requiredFirst-walk g p e w x) x
+  requiredFirst-walk (and m) p e w x = let (bs, q, o) = walk-arr m w x in subst (λ (l : List ℕ). mem l p ≡ true) (sym q) (requiredFirst-arr m p e bs o)
 
-  must-arr : (m : Members) (p : ℕ) → passesM m p ≡ true → (bs : List (List ℕ)) → Arr Walk m bs → mem (joined bs) p ≡ true
-  must-arr (one g) p e bs (w, q, x) =
-      subst (λ (l : List ℕ). mem l p ≡ true) (sym (ap joined (q ∙ sym (append-nil (block w))) ∙ joined-block w [] ∙ append-nil w)) (must-walk g p e w x)
-  must-arr (also m g) p e bs (a, b, w, q, o, x) =
+  requiredFirst-arr : (m : Members) (p : ℕ) → passesM m p ≡ true → (bs : List (List ℕ)) → Arr Walk m bs → mem (joined bs) p ≡ true
+  requiredFirst-arr (one g) p e bs (w, q, x) =
+      subst (λ (l : List ℕ). mem l p ≡ true) (sym (ap joined (q ∙ sym (append-nil (block w))) ∙ joined-block w [] ∙ append-nil w)) (requiredFirst-walk g p e w x)
+  requiredFirst-arr (also m g) p e bs (a, b, w, q, o, x) =
       subst
       (λ (l : List ℕ). mem l p ≡ true)
       (sym (ap joined q ∙ joined-append a (block w ++ b) ∙ ap (_++_ (joined a)) (joined-block w b)))
       (or-cases
       (passesM m p)
       _
-      (λ i. mem-cases (joined a) (joined b) p (mem-left (joined a) (w ++ joined b) p) (λ j. mem-right (joined a) (w ++ joined b) p (mem-right w (joined b) p j)) (rw joined-append at (must-arr m p i (a ++ b) o)))
-      (λ i. mem-right (joined a) (w ++ joined b) p (mem-left w (joined b) p (must-walk g p i w x)))
+      (λ i. mem-cases (joined a) (joined b) p (mem-left (joined a) (w ++ joined b) p) (λ j. mem-right (joined a) (w ++ joined b) p (mem-right w (joined b) p j)) (rw joined-append at (requiredFirst-arr m p i (a ++ b) o)))
+      (λ i. mem-right (joined a) (w ++ joined b) p (mem-left w (joined b) p (requiredFirst-walk g p i w x)))
       e)
 
 abbrev pub Avoids : Group → ℕ → Type 0
@@ -170,10 +170,10 @@ module _ (S : ℕ → Bool) where
 
     rem-must : (g : Group) (w : List ℕ) → not (meets g S) && passes g p ≡ true → Remains S g w → mem w p ≡ true
     rem-must g w e (inl (i, n)) = absurd (not-both (not-yes (meets g S) (passes g p) e .0) i)
-    rem-must g w e (inr (i, x)) = must-walk g p (not-yes (meets g S) (passes g p) e .1) w x
+    rem-must g w e (inr (i, x)) = requiredFirst-walk g p (not-yes (meets g S) (passes g p) e .1) w x
 
-    must-rem : (g : Group) → not (meets g S) && passes g p ≡ false → (w : List ℕ) × Remains S g w × (mem w p ≡ true → ⊥)
-    must-rem g e = go (no-not (meets g S) (passes g p) e)
+    requiredFirst-rem : (g : Group) → not (meets g S) && passes g p ≡ false → (w : List ℕ) × Remains S g w × (mem w p ≡ true → ⊥)
+    requiredFirst-rem g e = go (no-not (meets g S) (passes g p) e)
       where
         go : (meets g S ≡ true) ⊎ ((meets g S ≡ false) × (passes g p ≡ false)) → (w : List ℕ) × Remains S g w × (mem w p ≡ true → ⊥)
         go (inl i) = ([], inl (i, refl), λ j. false≢true j)
@@ -323,38 +323,38 @@ mutual
 -- The test of what every remainder passes says what the walks say.
 
 mutual
-  pub must-left : (g : Group) → Good g → (u : ℕ) (S : ℕ → Bool) (p : ℕ) → passesAfter g u S p ≡ true → (t : List ℕ) → Left g u S t → mem t p ≡ true
-  must-left (place n) d u S p e t l = absurd (false≢true e)
-  must-left (seq g h) (d, k, a) u S p e t (inl (i, l)) = must-left h k u S p (sym (cond-yes (passesAfter h u S p) (passesAfter g u S p || passes h p) i) ∙ e) t l
-  must-left (seq g h) (d, k, a) u S p e t (inr (i, x, y, q, l, w)) =
+  pub requiredFirst-left : (g : Group) → Good g → (u : ℕ) (S : ℕ → Bool) (p : ℕ) → passesAfter g u S p ≡ true → (t : List ℕ) → Left g u S t → mem t p ≡ true
+  requiredFirst-left (place n) d u S p e t l = absurd (false≢true e)
+  requiredFirst-left (seq g h) (d, k, a) u S p e t (inl (i, l)) = requiredFirst-left h k u S p (sym (cond-yes (passesAfter h u S p) (passesAfter g u S p || passes h p) i) ∙ e) t l
+  requiredFirst-left (seq g h) (d, k, a) u S p e t (inr (i, x, y, q, l, w)) =
       subst
       (λ (z : List ℕ). mem z p ≡ true)
       (sym q)
       (or-cases
       (passesAfter g u S p)
       _
-      (λ j. mem-left x y p (must-left g d u S p j x l))
-      (λ j. mem-right x y p (must-walk h p j y w))
+      (λ j. mem-left x y p (requiredFirst-left g d u S p j x l))
+      (λ j. mem-right x y p (requiredFirst-walk h p j y w))
       (sym (cond-no (passesAfter h u S p) (passesAfter g u S p || passes h p) (apart-no a i)) ∙ e))
-  must-left (alt g h) (d, k, a) u S p e t (inl (i, l)) = must-left g d u S p (sym (cond-no (passesAfter h u S p) (passesAfter g u S p) (apart-no a i)) ∙ e) t l
-  must-left (alt g h) (d, k, a) u S p e t (inr (i, l)) = must-left h k u S p (sym (cond-yes (passesAfter h u S p) (passesAfter g u S p) i) ∙ e) t l
-  must-left (opt g) d u S p e t l = must-left g d u S p e t l
-  must-left (plus g) (d, m) u S p e t (x, y, q, l, r) = subst (λ (z : List ℕ). mem z p ≡ true) (sym q) (mem-left x y p (must-left g d u S p e x l))
-  must-left (and m) d u S p e t (x, bs, q, n, o) =
+  requiredFirst-left (alt g h) (d, k, a) u S p e t (inl (i, l)) = requiredFirst-left g d u S p (sym (cond-no (passesAfter h u S p) (passesAfter g u S p) (apart-no a i)) ∙ e) t l
+  requiredFirst-left (alt g h) (d, k, a) u S p e t (inr (i, l)) = requiredFirst-left h k u S p (sym (cond-yes (passesAfter h u S p) (passesAfter g u S p) i) ∙ e) t l
+  requiredFirst-left (opt g) d u S p e t l = requiredFirst-left g d u S p e t l
+  requiredFirst-left (plus g) (d, m) u S p e t (x, y, q, l, r) = subst (λ (z : List ℕ). mem z p ≡ true) (sym q) (mem-left x y p (requiredFirst-left g d u S p e x l))
+  requiredFirst-left (and m) d u S p e t (x, bs, q, n, o) =
       subst
       (λ (z : List ℕ). mem z p ≡ true)
       (sym q)
       (or-cases
       (nowPasses m u S p)
       _
-      (λ j. mem-left x (joined bs) p (must-now m d u S p j x n))
+      (λ j. mem-left x (joined bs) p (requiredFirst-now m d u S p j x n))
       (λ j. mem-right x (joined bs) p (arr-passes (Remains S) (λ (g : Group). not (meets g S) && passes g p) p (rem-must S p) m bs j o))
       e)
 
-  pub must-now : (m : Members) → GoodM m → (u : ℕ) (S : ℕ → Bool) (p : ℕ) → nowPasses m u S p ≡ true → (t : List ℕ) → Now m u S t → mem t p ≡ true
-  must-now (one g) d u S p e t n = must-left g d u S p e t n
-  must-now (also m g) (d, k, a) u S p e t (inl (i, l)) = must-left g k u S p (sym (cond-yes (passesAfter g u S p) (nowPasses m u S p) i) ∙ e) t l
-  must-now (also m g) (d, k, a) u S p e t (inr (i, l)) = must-now m d u S p (sym (cond-no (passesAfter g u S p) (nowPasses m u S p) (apart-no a i)) ∙ e) t l
+  pub requiredFirst-now : (m : Members) → GoodM m → (u : ℕ) (S : ℕ → Bool) (p : ℕ) → nowPasses m u S p ≡ true → (t : List ℕ) → Now m u S t → mem t p ≡ true
+  requiredFirst-now (one g) d u S p e t n = requiredFirst-left g d u S p e t n
+  requiredFirst-now (also m g) (d, k, a) u S p e t (inl (i, l)) = requiredFirst-left g k u S p (sym (cond-yes (passesAfter g u S p) (nowPasses m u S p) i) ∙ e) t l
+  requiredFirst-now (also m g) (d, k, a) u S p e t (inr (i, l)) = requiredFirst-now m d u S p (sym (cond-no (passesAfter g u S p) (nowPasses m u S p) (apart-no a i)) ∙ e) t l
 
 abbrev Round : Group → ℕ → (ℕ → Bool) → ℕ → Type 0
 Round g u S p = (t : List ℕ) × Left g u S t × (mem t p ≡ true → ⊥)
@@ -388,7 +388,7 @@ mutual
   left-round (and m) u S p i e =
       let c = or-none (nowPasses m u S p) (anyM (λ (g : Group). not (meets g S) && passes g p) m) e in
       let (t, l, n) = now-round m u S p i (c .0) in
-      let (bs, o, k) = arr-avoids (Remains S) (λ (g : Group). not (meets g S) && passes g p) p (must-rem S p) m (c .1) in
+      let (bs, o, k) = arr-avoids (Remains S) (λ (g : Group). not (meets g S) && passes g p) p (requiredFirst-rem S p) m (c .1) in
       (t ++ joined bs, (t, bs, refl, l, o), mem-cases t (joined bs) p n k)
 
   now-round : (m : Members) (u : ℕ) (S : ℕ → Bool) (p : ℕ) → hasM m u ≡ true → nowPasses m u S p ≡ false → RoundM m u S p
@@ -424,8 +424,8 @@ module _ (g : Group) (good : Good g) (u : ℕ) (S : ℕ → Bool) (s : List ℕ)
       back : Complete g s → done g u S ≡ true
       back w = left-done g good u S (walk-left g good u S s [] e agree (rw append-nil w))
 
-  pub must-fold : (p : ℕ) → (passesAfter g u S p ≡ true) ↔ ((t : List ℕ) → Walk g (s ++ t) → mem t p ≡ true)
-  must-fold p = (λ i t w. must-left g good u S p i t (walk-left g good u S s t e agree w), back)
+  pub requiredFirst-fold : (p : ℕ) → (passesAfter g u S p ≡ true) ↔ ((t : List ℕ) → Walk g (s ++ t) → mem t p ≡ true)
+  requiredFirst-fold p = (λ i t w. requiredFirst-left g good u S p i t (walk-left g good u S s t e agree w), back)
     where
       back : ((t : List ℕ) → Walk g (s ++ t) → mem t p ≡ true) → passesAfter g u S p ≡ true
       back f =
@@ -441,5 +441,5 @@ next-start g p = (first-begins g p, λ (t, w). walk-first g p t w)
 pub complete-start : (g : Group) → (nullable g ≡ true) ↔ Complete g []
 complete-start g = (null-walk g, walk-null g)
 
-pub must-start : (g : Group) (p : ℕ) → (passes g p ≡ true) ↔ ((t : List ℕ) → Walk g t → mem t p ≡ true)
-must-start g p = (must-walk g p, λ f. bool-cases (passes g p) (λ i. i) (λ i. let (t, w, n) = avoids g p i in absurd (n (f t w))))
+pub requiredFirst-start : (g : Group) (p : ℕ) → (passes g p ≡ true) ↔ ((t : List ℕ) → Walk g t → mem t p ≡ true)
+requiredFirst-start g p = (requiredFirst-walk g p, λ f. bool-cases (passes g p) (λ i. i) (λ i. let (t, w, n) = avoids g p i in absurd (n (f t w))))

@@ -8,12 +8,12 @@ use lib.Dec.{eqb}
 use borrow.Author.Tests as tests
 use borrow.Author.Tests.{eqb-true, eq-eqb}
 use Rattle.basic_laws.specs.Truth.{or-left, or-right, or-cases, and-left, and-right, and-both, not-true, not-both, bool-cases, false-not}
-use Rattle.model_sets.specs.Sets.{nullable, must}
+use Rattle.model_sets.specs.Sets.{nullable, requiredFirst}
 use Rattle.rules.specs.Walk.{Group, Members, one, also}
 use Rattle.and_laws.specs.Base.{mem}
 use Rattle.and_laws.specs.Sets.{meets}
 use Rattle.and_laws.specs.Rest.{allM}
-use Rattle.and_laws.specs.Req.{anyIdle, restReq}
+use Rattle.and_laws.specs.Req.{anyIdle, requiredRest}
 use Rattle.and_laws.specs.Rows.{fine}
 
 -- These laws are of lists of numbers.
@@ -94,7 +94,7 @@ module _ (B : ℕ → Bool) (r : ℕ → ℕ) where
 module _ (S : ℕ → Bool) (B : ℕ → Bool) (null : ℕ → Bool) (r : ℕ → ℕ) where
   -- The bit of a member's number says whether it has begun, and the table says whether it can be nothing and what it requires.
   abbrev pub IsNumber : ℕ → Group → Type 0
-  IsNumber n g = (B n ≡ meets g S) × (null n ≡ nullable g) × (r n ≡ must g)
+  IsNumber n g = (B n ≡ meets g S) × (null n ≡ nullable g) × (r n ≡ requiredFirst g)
 
   -- The members have these numbers, the last member's first.
   abbrev pub Filed : Members → List ℕ → Type 0
@@ -113,6 +113,6 @@ module _ (S : ℕ → Bool) (B : ℕ → Bool) (null : ℕ → Bool) (r : ℕ �
   filed-idle (one g) ns (n, e, (b, c, d)) = rw (e, b)
   filed-idle (also m g) ns (n, ks, e, (b, c, d), f) = rw (e, b) (ap (λ (z : Bool). z || not (meets g S)) (filed-idle m ks f))
 
-  pub filed-rest : (m : Members) (ns : List ℕ) → Filed m ns → restReq m S ≡ loneOf B r ns
+  pub filed-rest : (m : Members) (ns : List ℕ) → Filed m ns → requiredRest m S ≡ loneOf B r ns
   filed-rest (one g) ns (n, e, (b, c, d)) = rw (e, b, d)
   filed-rest (also m g) ns (n, ks, e, (b, c, d), f) = rw (e, b, d, filed-rest m ks f, filed-idle m ks f)

@@ -16,18 +16,18 @@ use Rattle.and_laws.specs.Blocks.{block, Arr, walk-arr, At, before, here
 use Rattle.and_laws.specs.Left.{Agrees, agrees-less, agrees-second, agrees-out, agrees-own, ends-in, arr-has}
 use Rattle.and_laws.specs.Fold.{some-walk, null-walk, first-begins}
 use Rattle.and_laws.specs.Rest.{anyM}
-use Rattle.and_laws.specs.Decide.{passes, passesM, must-walk, fit, nowFit, done, nowDone, passesAfter, nowPasses, done-left, done-now, must-left, must-now, or-only}
+use Rattle.and_laws.specs.Decide.{passes, passesM, requiredFirst-walk, fit, nowFit, done, nowDone, passesAfter, nowPasses, done-left, done-now, requiredFirst-left, requiredFirst-now, or-only}
 
 -- What begins, is passed or comes next is a place of the group.
 
 pub first-has : (g : Group) (p : ℕ) → first g p ≡ true → has g p ≡ true
 first-has g p e = let (t, w) = first-begins g p e in walk-in g (p ∷ t) w p (or-left _ (eq-eqb p p refl))
 
-pub must-has : (g : Group) (p : ℕ) → passes g p ≡ true → has g p ≡ true
-must-has g p e = let (w, x) = some-walk g in walk-in g w x p (must-walk g p e w x)
+pub requiredFirst-has : (g : Group) (p : ℕ) → passes g p ≡ true → has g p ≡ true
+requiredFirst-has g p e = let (w, x) = some-walk g in walk-in g w x p (requiredFirst-walk g p e w x)
 
-pub must-null : (g : Group) (p : ℕ) → passes g p ≡ true → nullable g ≡ true → ⊥
-must-null g p e n = false≢true (must-walk g p e [] (null-walk g n))
+pub requiredFirst-null : (g : Group) (p : ℕ) → passes g p ≡ true → nullable g ≡ true → ⊥
+requiredFirst-null g p e n = false≢true (requiredFirst-walk g p e [] (null-walk g n))
 
 cond-either : {C : Type 0} (c x y : Bool) → cond c x y ≡ true → (x ≡ true → C) → (y ≡ true → C) → C
 cond-either true x y e f k = f e
@@ -53,19 +53,19 @@ mutual
   nowFit-has (also m g) u S p e = cond-either (has g u) _ _ e (λ i. or-right (hasM m p) (fit-has g u S p i)) (λ i. or-left _ (nowFit-has m u S p i))
 
 mutual
-  pub mustAfter-has : (g : Group) (u : ℕ) (S : ℕ → Bool) (p : ℕ) → passesAfter g u S p ≡ true → has g p ≡ true
-  mustAfter-has (place n) u S p e = absurd (false≢true e)
-  mustAfter-has (seq g h) u S p e =
-      cond-either (has h u) _ _ e (λ i. or-right (has g p) (mustAfter-has h u S p i)) (or-cases (passesAfter g u S p) _ (λ i. or-left _ (mustAfter-has g u S p i)) (λ i. or-right (has g p) (must-has h p i)))
-  mustAfter-has (alt g h) u S p e = cond-either (has h u) _ _ e (λ i. or-right (has g p) (mustAfter-has h u S p i)) (λ i. or-left _ (mustAfter-has g u S p i))
-  mustAfter-has (opt g) u S p e = mustAfter-has g u S p e
-  mustAfter-has (plus g) u S p e = mustAfter-has g u S p e
-  mustAfter-has (and m) u S p e =
-      or-cases (nowPasses m u S p) _ (λ i. nowMust-has m u S p i) (λ i. any-has (λ (g : Group). not (meets g S) && passes g p) p (λ g j. must-has g p (and-right (not (meets g S)) _ j)) m i) e
+  pub requiredAfter-has : (g : Group) (u : ℕ) (S : ℕ → Bool) (p : ℕ) → passesAfter g u S p ≡ true → has g p ≡ true
+  requiredAfter-has (place n) u S p e = absurd (false≢true e)
+  requiredAfter-has (seq g h) u S p e =
+      cond-either (has h u) _ _ e (λ i. or-right (has g p) (requiredAfter-has h u S p i)) (or-cases (passesAfter g u S p) _ (λ i. or-left _ (requiredAfter-has g u S p i)) (λ i. or-right (has g p) (requiredFirst-has h p i)))
+  requiredAfter-has (alt g h) u S p e = cond-either (has h u) _ _ e (λ i. or-right (has g p) (requiredAfter-has h u S p i)) (λ i. or-left _ (requiredAfter-has g u S p i))
+  requiredAfter-has (opt g) u S p e = requiredAfter-has g u S p e
+  requiredAfter-has (plus g) u S p e = requiredAfter-has g u S p e
+  requiredAfter-has (and m) u S p e =
+      or-cases (nowPasses m u S p) _ (λ i. nowMust-has m u S p i) (λ i. any-has (λ (g : Group). not (meets g S) && passes g p) p (λ g j. requiredFirst-has g p (and-right (not (meets g S)) _ j)) m i) e
 
   pub nowMust-has : (m : Members) (u : ℕ) (S : ℕ → Bool) (p : ℕ) → nowPasses m u S p ≡ true → hasM m p ≡ true
-  nowMust-has (one g) u S p e = mustAfter-has g u S p e
-  nowMust-has (also m g) u S p e = cond-either (has g u) _ _ e (λ i. or-right (hasM m p) (mustAfter-has g u S p i)) (λ i. or-left _ (nowMust-has m u S p i))
+  nowMust-has (one g) u S p e = requiredAfter-has g u S p e
+  nowMust-has (also m g) u S p e = cond-either (has g u) _ _ e (λ i. or-right (hasM m p) (requiredAfter-has g u S p i)) (λ i. or-left _ (nowMust-has m u S p i))
 
 -- The state of some beginning: u its last place, S the places taken in "&" groups.
 
@@ -197,12 +197,12 @@ firstM-has m p e = first-has (and m) p e
 
 module _ (g h : Group) (d : Apart (has g) (has h)) (p : ℕ) where
   pub start-first : has g p ≡ true → Start (seq g h) p → Start g p
-  start-first i (x, y) = (or-first (first g p) _ x (λ j. d p i (first-has h p (and-right (nullable g) _ j))), or-first (passes g p) _ y (λ j. d p i (must-has h p j)))
+  start-first i (x, y) = (or-first (first g p) _ x (λ j. d p i (first-has h p (and-right (nullable g) _ j))), or-first (passes g p) _ y (λ j. d p i (requiredFirst-has h p j)))
 
   pub start-second : has h p ≡ true → Start (seq g h) p → Start h p × (nullable g ≡ true)
   start-second i (x, y) =
       let k = or-last (first g p) _ x (λ j. d p (first-has g p j) i) in
-      ((and-right (nullable g) _ k, or-last (passes g p) _ y (λ j. d p (must-has g p j) i)), and-left (nullable g) _ k)
+      ((and-right (nullable g) _ k, or-last (passes g p) _ y (λ j. d p (requiredFirst-has g p j) i)), and-left (nullable g) _ k)
 
 module _ (S : ℕ → Bool) where
   -- The member has not begun, and can begin with the place.
@@ -216,7 +216,7 @@ module _ (S : ℕ → Bool) where
   rest-first-has r g e = first-has g r (and-right (not (meets g S)) _ e)
 
   pub rest-must-has : (r : ℕ) (g : Group) → restMust r g ≡ true → has g r ≡ true
-  rest-must-has r g e = must-has g r (and-right (not (meets g S)) _ e)
+  rest-must-has r g e = requiredFirst-has g r (and-right (not (meets g S)) _ e)
 
   abbrev pub RestM : Members → ℕ → Type 0
   RestM m r = (anyM (restFirst r) m ≡ true) × (anyM (restMust r) m ≡ true)
@@ -252,7 +252,7 @@ module _ (S : ℕ → Bool) where
   AfterM m u r = (nowFit m u S r ≡ true) × (nowPasses m u S r ≡ true)
 
   pub done-must : (g : Group) → Good g → (u r : ℕ) → has g u ≡ true → done g u S ≡ true → passesAfter g u S r ≡ true → ⊥
-  done-must g d u r i e f = false≢true (must-left g d u S r f [] (done-left g u S i e))
+  done-must g d u r i e f = false≢true (requiredFirst-left g d u S r f [] (done-left g u S i e))
 
   module _ (g h : Group) (d : Apart (has g) (has h)) (u r : ℕ) where
     pub after-second : has h u ≡ true → After (seq g h) u r → After h u r
@@ -264,13 +264,13 @@ module _ (S : ℕ → Bool) where
     pub after-g : has h u ≡ false → has g r ≡ true → After (seq g h) u r → After g u r
     after-g j i z =
         let (x, y) = after-first j z in
-        (or-first (fit g u S r) _ x (λ l. d r i (first-has h r (and-right (done g u S) _ l))), or-first (passesAfter g u S r) _ y (λ l. d r i (must-has h r l)))
+        (or-first (fit g u S r) _ x (λ l. d r i (first-has h r (and-right (done g u S) _ l))), or-first (passesAfter g u S r) _ y (λ l. d r i (requiredFirst-has h r l)))
 
     pub after-h : has h u ≡ false → has h r ≡ true → After (seq g h) u r → Start h r × (done g u S ≡ true)
     after-h j i z =
         let (x, y) = after-first j z in
         let l = or-last (fit g u S r) _ x (λ o. d r (fit-has g u S r o) i) in
-        ((and-right (done g u S) _ l, or-last (passesAfter g u S r) _ y (λ o. d r (mustAfter-has g u S r o) i)), and-left (done g u S) _ l)
+        ((and-right (done g u S) _ l, or-last (passesAfter g u S r) _ y (λ o. d r (requiredAfter-has g u S r o) i)), and-left (done g u S) _ l)
 
     pub alt-after-h : has h u ≡ true → After (alt g h) u r → After h u r
     alt-after-h j (x, y) = (sym (cond-yes (fit h u S r) (fit g u S r) j) ∙ x, sym (cond-yes (passesAfter h u S r) (passesAfter g u S r) j) ∙ y)
@@ -282,7 +282,7 @@ module _ (S : ℕ → Bool) where
     -- Where the member at hand is done, the place is in another.
     pub and-rest : nowDone m u S ≡ true → After (and m) u r → RestM m r
     and-rest n (x, y) =
-        let k : anyM (restMust r) m ≡ true = or-last (nowPasses m u S r) _ y (λ l. false≢true (must-now m d u S r l [] (done-now m u S i n))) in
+        let k : anyM (restMust r) m ≡ true = or-last (nowPasses m u S r) _ y (λ l. false≢true (requiredFirst-now m d u S r l [] (done-now m u S i n))) in
         (and-right (nowDone m u S) _ (or-last (nowFit m u S r) _ x (λ l. now-met m d u r i t l k)), k)
 
     -- Where it is not done, the place is in it.

@@ -3,12 +3,12 @@ use Prim.Native.Nat.{ℕ}
 use mathlib.Core.Path.{_≡_, refl, _∙_}
 use mathlib.Core.Bool.{Bool, true, false, _&&_, _||_, not, cond, false≢true, and-false}
 use Rattle.basic_laws.specs.Truth.{or-cases, and-left, and-right, not-both, bool-cases, cond-same}
-use Rattle.model_sets.specs.Sets.{has, hasM, nullable, nullableM, last, lastM, must, mustM, mustAfter, mustAfterM}
+use Rattle.model_sets.specs.Sets.{has, hasM, nullable, nullableM, last, lastM, requiredFirst, requiredFirstM, requiredAfter, requiredAfterM}
 use Rattle.rules.specs.Walk.{Group, place, seq, alt, opt, plus, and, Members, one, also}
 use Rattle.and_laws.specs.Sets.{meets, Plain, Good, GoodM}
 use Rattle.and_laws.specs.Rest.{allM}
 use Rattle.and_laws.specs.Decide.{done, nowDone, or-only}
-use Rattle.and_laws.specs.Req.{anyIdle, restReq, reqAfter, reqNow}
+use Rattle.and_laws.specs.Req.{anyIdle, requiredRest, requiredNext, requiredNow}
 use Rattle.and_laws.specs.Rows.{last-has, lastM-has, fine, full, fullM, done-row, now-row}
 
 -- An "&" group around u lacks a member, where u can end the members that hold it, up to that group.
@@ -33,7 +33,7 @@ abbrev mutual
   lone (alt g h) u S = cond (has h u) (lone h u S) (lone g u S)
   lone (opt g) u S = lone g u S
   lone (plus g) u S = 0
-  lone (and m) u S = cond (blocksM m u S) (loneM m u S) (restReq m S)
+  lone (and m) u S = cond (blocksM m u S) (loneM m u S) (requiredRest m S)
 
   pub loneM : Members → ℕ → (ℕ → Bool) → ℕ
   loneM (one g) u S = lone g u S
@@ -41,7 +41,7 @@ abbrev mutual
 
 -- A group that can be nothing requires nothing.
 mutual
-  pub null-req : (g : Group) → nullable g ≡ true → must g ≡ 0
+  pub null-req : (g : Group) → nullable g ≡ true → requiredFirst g ≡ 0
   null-req (place n) e = absurd (false≢true e)
   null-req (seq g h) e = rw (and-left (nullable g) _ e) (null-req h (and-right (nullable g) _ e))
   null-req (alt g h) e = refl
@@ -49,13 +49,13 @@ mutual
   null-req (plus g) e = null-req g e
   null-req (and m) e = null-reqM m e
 
-  null-reqM : (m : Members) → nullableM m ≡ true → mustM m ≡ 0
+  null-reqM : (m : Members) → nullableM m ≡ true → requiredFirstM m ≡ 0
   null-reqM (one g) e = null-req g e
   null-reqM (also m g) e = refl
 
 -- A place that can end the group has nothing required after it.
 mutual
-  pub last-req : (g : Group) → Good g → (u : ℕ) → last g u ≡ true → mustAfter g u ≡ 0
+  pub last-req : (g : Group) → Good g → (u : ℕ) → last g u ≡ true → requiredAfter g u ≡ 0
   last-req (place n) d u e = refl
   last-req (seq g h) (d, k, a) u e =
       bool-cases
@@ -73,7 +73,7 @@ mutual
   last-req (plus g) (d, n) u e = last-req g d u e
   last-req (and m) d u e = lastM-req m d u e
 
-  lastM-req : (m : Members) → GoodM m → (u : ℕ) → lastM m u ≡ true → mustAfterM m u ≡ 0
+  lastM-req : (m : Members) → GoodM m → (u : ℕ) → lastM m u ≡ true → requiredAfterM m u ≡ 0
   lastM-req (one g) d u e = last-req g d u e
   lastM-req (also m g) (d, k, a) u e =
       bool-cases
@@ -82,7 +82,7 @@ mutual
       (λ j. rw j (lastM-req m d u (or-cases (lastM m u) _ (λ x. x) (λ y. absurd (not-both j (last-has g u y))) e)))
 
 -- Where every member has begun or can be nothing, none is required.
-fine-rest : (m : Members) (S : ℕ → Bool) → allM (fine S) m ≡ true → restReq m S ≡ 0
+fine-rest : (m : Members) (S : ℕ → Bool) → allM (fine S) m ≡ true → requiredRest m S ≡ 0
 fine-rest (one g) S e = bool-cases (meets g S) (λ i. rw i) (λ i. rw i (null-req g (rw i at e)))
 fine-rest (also m g) S e =
     bool-cases
@@ -157,7 +157,7 @@ plain-blocks (and m) x u S = absurd x
 
 mutual
   -- The required place is the row's, or where something blocks that of the only member left.
-  pub req-row : (g : Group) → Good g → (u : ℕ) (S : ℕ → Bool) → has g u ≡ true → reqAfter g u S ≡ cond (blocks g u S) (lone g u S) (mustAfter g u)
+  pub req-row : (g : Group) → Good g → (u : ℕ) (S : ℕ → Bool) → has g u ≡ true → requiredNext g u S ≡ cond (blocks g u S) (lone g u S) (requiredAfter g u)
   req-row (place n) d u S i = refl
   req-row (seq g h) (d, k, a) u S i =
       bool-cases
@@ -186,6 +186,6 @@ mutual
       (λ t.
       rw t (req-now m d u S i ∙ bool-cases (blocksM m u S) (λ y. rw y) (λ y. rw (y, still-open (lastM m u) (blocksM m u S) (nowDone m u S) e t y))))
 
-  req-now : (m : Members) → GoodM m → (u : ℕ) (S : ℕ → Bool) → hasM m u ≡ true → reqNow m u S ≡ cond (blocksM m u S) (loneM m u S) (mustAfterM m u)
+  req-now : (m : Members) → GoodM m → (u : ℕ) (S : ℕ → Bool) → hasM m u ≡ true → requiredNow m u S ≡ cond (blocksM m u S) (loneM m u S) (requiredAfterM m u)
   req-now (one g) d u S i = req-row g d u S i
   req-now (also m g) (d, k, a) u S i = bool-cases (has g u) (λ j. rw j (req-row g k u S j)) (λ j. rw j (req-now m d u S (or-only (hasM m u) (has g u) j i)))

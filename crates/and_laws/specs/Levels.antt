@@ -9,7 +9,7 @@ use Rattle.rules.specs.Walk.{Group, place, seq, alt, opt, plus, and, Members, o
 use Rattle.and_laws.specs.Sets.{meets, Good, GoodM}
 use Rattle.and_laws.specs.Rest.{allM, anyM}
 use Rattle.and_laws.specs.Decide.{or-only}
-use Rattle.and_laws.specs.Req.{restReq}
+use Rattle.and_laws.specs.Req.{requiredRest}
 use Rattle.and_laws.specs.Forced.{first-has}
 use Rattle.and_laws.specs.Rows.{last-has, lastM-has, follow-from, followM-from, follow-to, followM-to, fine, full, fullM, unbegun, may, mayM}
 use Rattle.and_laws.specs.Lacking.{blocks, blocksM, lone, loneM}
@@ -36,7 +36,7 @@ blocksIn (m ∷ ms) u S = lastM m u && (not (allM (fine S) m) || blocksIn ms u S
 -- This is the place that is required in the first group that lacks a member.
 abbrev pub loneIn : List Members → (ℕ → Bool) → ℕ
 loneIn [] S = 0
-loneIn (m ∷ ms) S = cond (allM (fine S) m) (loneIn ms S) (restReq m S)
+loneIn (m ∷ ms) S = cond (allM (fine S) m) (loneIn ms S) (requiredRest m S)
 
 -- The place u can end the members that hold it in all of these groups.
 abbrev pub endsIn : List Members → ℕ → Bool

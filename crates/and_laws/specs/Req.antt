@@ -7,36 +7,36 @@ use lib.Dec.{eqb}
 use borrow.Author.Tests as tests
 use borrow.Author.Tests.{eqb-true, eq-eqb}
 use Rattle.basic_laws.specs.Truth.{or-left, or-right, or-cases, and-left, and-right, and-both, not-true, not-both, bool-cases, cond-yes, cond-no, false-not}
-use Rattle.model_sets.specs.Sets.{has, hasM, nullable, first, firstM, must, mustM}
+use Rattle.model_sets.specs.Sets.{has, hasM, nullable, first, firstM, requiredFirst, requiredFirstM}
 use Rattle.rules.specs.Walk.{Group, place, seq, alt, opt, plus, and, Members, one, also, IsMember}
 use Rattle.and_laws.specs.Base.{Apart}
 use Rattle.and_laws.specs.Sets.{held, meets, Plain, Good, GoodM, held-has, common-meets}
 use Rattle.and_laws.specs.Rest.{anyM}
 use Rattle.and_laws.specs.Decide.{passes, fit, nowFit, done, nowDone, passesAfter, nowPasses, or-only}
 use Rattle.and_laws.specs.Required.{Other, OtherM, any-member, other-held, member-has}
-use Rattle.and_laws.specs.Forced.{first-has, must-has, fit-has, nowFit-has, or-first, or-last, must-null, State, StateM, seq-first, seq-second, alt-first, alt-second, opt-state, plus-state, and-state, stateM-taken, one-state, more-state, Start, StartM, start-first, start-second, restFirst, restMust, RestM, rest-has, rest-others, rest-own, fresh-meets, After, AfterM, done-must, after-second, after-g, after-h, alt-after-h, alt-after-g, and-rest, and-now, now-own, now-others}
+use Rattle.and_laws.specs.Forced.{first-has, requiredFirst-has, fit-has, nowFit-has, or-first, or-last, requiredFirst-null, State, StateM, seq-first, seq-second, alt-first, alt-second, opt-state, plus-state, and-state, stateM-taken, one-state, more-state, Start, StartM, start-first, start-second, restFirst, restMust, RestM, rest-has, rest-others, rest-own, fresh-meets, After, AfterM, done-must, after-second, after-g, after-h, alt-after-h, alt-after-g, and-rest, and-now, now-own, now-others}
 
 abbrev pub anyIdle : (ℕ → Bool) → Members → Bool
 anyIdle S m = anyM (λ (g : Group). not (meets g S)) m
 
 -- This is what the only member requires that has not begun, and 0 if there are more or none.
-abbrev pub restReq : Members → (ℕ → Bool) → ℕ
-restReq (one g) S = cond (meets g S) 0 (must g)
-restReq (also m g) S = cond (meets g S) (restReq m S) (cond (anyIdle S m) 0 (must g))
+abbrev pub requiredRest : Members → (ℕ → Bool) → ℕ
+requiredRest (one g) S = cond (meets g S) 0 (requiredFirst g)
+requiredRest (also m g) S = cond (meets g S) (requiredRest m S) (cond (anyIdle S m) 0 (requiredFirst g))
 
 -- This is what is required after the place u.
 abbrev mutual
-  pub reqAfter : Group → ℕ → (ℕ → Bool) → ℕ
-  reqAfter (place n) u S = 0
-  reqAfter (seq g h) u S = cond (has h u) (reqAfter h u S) (cond (done g u S) (must h) (reqAfter g u S))
-  reqAfter (alt g h) u S = cond (has h u) (reqAfter h u S) (reqAfter g u S)
-  reqAfter (opt g) u S = reqAfter g u S
-  reqAfter (plus g) u S = reqAfter g u S
-  reqAfter (and m) u S = cond (nowDone m u S) (restReq m S) (reqNow m u S)
+  pub requiredNext : Group → ℕ → (ℕ → Bool) → ℕ
+  requiredNext (place n) u S = 0
+  requiredNext (seq g h) u S = cond (has h u) (requiredNext h u S) (cond (done g u S) (requiredFirst h) (requiredNext g u S))
+  requiredNext (alt g h) u S = cond (has h u) (requiredNext h u S) (requiredNext g u S)
+  requiredNext (opt g) u S = requiredNext g u S
+  requiredNext (plus g) u S = requiredNext g u S
+  requiredNext (and m) u S = cond (nowDone m u S) (requiredRest m S) (requiredNow m u S)
 
-  pub reqNow : Members → ℕ → (ℕ → Bool) → ℕ
-  reqNow (one g) u S = reqAfter g u S
-  reqNow (also m g) u S = cond (has g u) (reqAfter g u S) (reqNow m u S)
+  pub requiredNow : Members → ℕ → (ℕ → Bool) → ℕ
+  requiredNow (one g) u S = requiredNext g u S
+  requiredNow (also m g) u S = cond (has g u) (requiredNext g u S) (requiredNow m u S)
 
 -- A place whose other members are spoken of is in the group.
 mutual
@@ -123,16 +123,16 @@ module _ (p : ℕ) (pos : p ≡ 0 → ⊥) where
   zero-no e = absurd (pos (sym e))
 
   mutual
-    pub sound0 : (g : Group) → Good g → must g ≡ p → Start g p × Alone g
+    pub sound0 : (g : Group) → Good g → requiredFirst g ≡ p → Start g p × Alone g
     sound0 (place n) d e = ((eq-eqb n p e, eq-eqb n p e), λ h o. o)
     sound0 (seq g h) (d, k, a) e =
         bool-cases
         (nullable g)
         (λ i.
-        let (x, c) = sound0 h k (sym (cond-yes (must h) (must g) i) ∙ e) in
+        let (x, c) = sound0 h k (sym (cond-yes (requiredFirst h) (requiredFirst g) i) ∙ e) in
         ((or-right (first g p) (and-both i (x .0)), or-right (passes g p) (x .1)), second x c))
         (λ i.
-        let (x, c) = sound0 g d (sym (cond-no (must h) (must g) i) ∙ e) in
+        let (x, c) = sound0 g d (sym (cond-no (requiredFirst h) (requiredFirst g) i) ∙ e) in
         ((or-left _ (x .0), or-left _ (x .1)), first-only x c))
       where
         second : Start h p → Alone h → Alone (seq g h)
@@ -147,12 +147,12 @@ module _ (p : ℕ) (pos : p ≡ 0 → ⊥) where
     sound0 (plus g) (d, n) e = sound0 g d e
     sound0 (and m) d e = sound0M m d e
 
-    sound0M : (m : Members) → GoodM m → mustM m ≡ p → StartM m p × ((h : Group) → OtherM m p h → ⊥)
+    sound0M : (m : Members) → GoodM m → requiredFirstM m ≡ p → StartM m p × ((h : Group) → OtherM m p h → ⊥)
     sound0M (one g) d e = sound0 g d e
     sound0M (also m g) d e = zero-no e
 
   mutual
-    pub complete0 : (g : Group) → Good g → Start g p → ((h : Group) → Other g p h → ⊥) → must g ≡ p
+    pub complete0 : (g : Group) → Good g → Start g p → ((h : Group) → Other g p h → ⊥) → requiredFirst g ≡ p
     complete0 (place n) d x c = eqb-true n p (x .0)
     complete0 (seq g h) (d, k, a) x c =
         or-cases
@@ -160,17 +160,17 @@ module _ (p : ℕ) (pos : p ≡ 0 → ⊥) where
         (has h p)
         (λ i.
         let v = start-first g h a p i x in
-        cond-no (must h) (must g) (not-true (nullable g) (must-null g p (v .1))) ∙ complete0 g d v (λ z o. c z (inl o)))
+        cond-no (requiredFirst h) (requiredFirst g) (not-true (nullable g) (requiredFirst-null g p (v .1))) ∙ complete0 g d v (λ z o. c z (inl o)))
         (λ i.
         let (v, n) = start-second g h a p i x in
-        cond-yes (must h) (must g) n ∙ complete0 h k v (λ z o. c z (inr o)))
+        cond-yes (requiredFirst h) (requiredFirst g) n ∙ complete0 h k v (λ z o. c z (inr o)))
         (first-has (seq g h) p (x .0))
-    complete0 (alt g h) (d, k, a) x c = absurd (a p (must-has g p (and-left (passes g p) _ (x .1))) (must-has h p (and-right (passes g p) _ (x .1))))
+    complete0 (alt g h) (d, k, a) x c = absurd (a p (requiredFirst-has g p (and-left (passes g p) _ (x .1))) (requiredFirst-has h p (and-right (passes g p) _ (x .1))))
     complete0 (opt g) d x c = absurd (false≢true (x .1))
     complete0 (plus g) (d, n) x c = complete0 g d x c
     complete0 (and m) d x c = complete0M m d x c
 
-    complete0M : (m : Members) → GoodM m → StartM m p → ((h : Group) → OtherM m p h → ⊥) → mustM m ≡ p
+    complete0M : (m : Members) → GoodM m → StartM m p → ((h : Group) → OtherM m p h → ⊥) → requiredFirstM m ≡ p
     complete0M (one g) d x c = complete0 g d x c
     complete0M (also m g) (d, k, a) x c = absurd (or-cases (hasM m p) (has g p) (λ i. c g (inr (inr (i, refl)))) (λ i. let (h, o) = some-member m in c h (inr (inl (i, o)))) (first-has (and (also m g)) p (x .0)))
       where
@@ -183,27 +183,27 @@ module _ (p : ℕ) (pos : p ≡ 0 → ⊥) where
     idle-yes : (m : Members) (h : Group) → IsMember m h → meets h S ≡ false → anyIdle S m ≡ true
     idle-yes m h i n = member-any (λ (g : Group). not (meets g S)) m h i (rw n)
 
-    rest-sound : (m : Members) → GoodM m → restReq m S ≡ p → RestM S m p × ((h : Group) → OtherM m p h → meets h S ≡ false → ⊥)
+    rest-sound : (m : Members) → GoodM m → requiredRest m S ≡ p → RestM S m p × ((h : Group) → OtherM m p h → meets h S ≡ false → ⊥)
     rest-sound (one g) d e =
         bool-cases
         (meets g S)
-        (λ i. zero-no (sym (cond-yes 0 (must g) i) ∙ e))
+        (λ i. zero-no (sym (cond-yes 0 (requiredFirst g) i) ∙ e))
         (λ i.
-        let (x, c) = sound0 g d (sym (cond-no 0 (must g) i) ∙ e) in
+        let (x, c) = sound0 g d (sym (cond-no 0 (requiredFirst g) i) ∙ e) in
         ((and-both (false-not (meets g S) i) (x .0), and-both (false-not (meets g S) i) (x .1)), λ h o n. c h o))
     rest-sound (also m g) (d, k, a) e =
         bool-cases
         (meets g S)
         (λ i.
-        let (x, c) = rest-sound m d (sym (cond-yes (restReq m S) (cond (anyIdle S m) 0 (must g)) i) ∙ e) in
+        let (x, c) = rest-sound m d (sym (cond-yes (requiredRest m S) (cond (anyIdle S m) 0 (requiredFirst g)) i) ∙ e) in
         ((or-left _ (x .0), or-left _ (x .1)), old i x c))
         (λ i.
-        let f : cond (anyIdle S m) 0 (must g) ≡ p = sym (cond-no (restReq m S) (cond (anyIdle S m) 0 (must g)) i) ∙ e in
+        let f : cond (anyIdle S m) 0 (requiredFirst g) ≡ p = sym (cond-no (requiredRest m S) (cond (anyIdle S m) 0 (requiredFirst g)) i) ∙ e in
         bool-cases
         (anyIdle S m)
-        (λ j. zero-no (sym (cond-yes 0 (must g) j) ∙ f))
+        (λ j. zero-no (sym (cond-yes 0 (requiredFirst g) j) ∙ f))
         (λ j.
-        let (x, c) = sound0 g k (sym (cond-no 0 (must g) j) ∙ f) in
+        let (x, c) = sound0 g k (sym (cond-no 0 (requiredFirst g) j) ∙ f) in
         ((or-right (anyM (restFirst S p) m) (and-both (false-not (meets g S) i) (x .0)), or-right (anyM (restMust S p) m) (and-both (false-not (meets g S) i) (x .1))), new j x c)))
       where
         old : meets g S ≡ true → RestM S m p → ((h : Group) → OtherM m p h → meets h S ≡ false → ⊥) → (h : Group) → OtherM (also m g) p h → meets h S ≡ false → ⊥
@@ -221,10 +221,10 @@ module _ (p : ℕ) (pos : p ≡ 0 → ⊥) where
     unmet-other : (g : Group) (h : Group) → Other g p h → meets g S ≡ false → meets h S ≡ false
     unmet-other g h o n = fresh-meets h S (held g) (λ r i. other-held g p h r o i) (λ r i j. not-both n (common-meets g S r (held-has g r i) j))
 
-    rest-complete : (m : Members) → GoodM m → RestM S m p → ((h : Group) → OtherM m p h → meets h S ≡ false → ⊥) → restReq m S ≡ p
+    rest-complete : (m : Members) → GoodM m → RestM S m p → ((h : Group) → OtherM m p h → meets h S ≡ false → ⊥) → requiredRest m S ≡ p
     rest-complete (one g) d (x, y) c =
         let n = tests.not-true (meets g S) (and-left (not (meets g S)) _ x) in
-        cond-no 0 (must g) n ∙ complete0 g d (and-right (not (meets g S)) _ x, and-right (not (meets g S)) _ y) (λ h o. c h o (unmet-other g h o n))
+        cond-no 0 (requiredFirst g) n ∙ complete0 g d (and-right (not (meets g S)) _ x, and-right (not (meets g S)) _ y) (λ h o. c h o (unmet-other g h o n))
     rest-complete (also m g) (d, k, a) x c =
         or-cases
         (hasM m p)
@@ -232,13 +232,13 @@ module _ (p : ℕ) (pos : p ≡ 0 → ⊥) where
         (λ i.
         bool-cases
         (meets g S)
-        (λ j. cond-yes (restReq m S) (cond (anyIdle S m) 0 (must g)) j ∙ rest-complete m d (rest-others S m g a p i x) (λ h o n. c h (inl (inl o)) n))
+        (λ j. cond-yes (requiredRest m S) (cond (anyIdle S m) 0 (requiredFirst g)) j ∙ rest-complete m d (rest-others S m g a p i x) (λ h o n. c h (inl (inl o)) n))
         (λ j. absurd (c g (inr (inr (i, refl))) j)))
         (λ i.
         let (v, w) = rest-own S m g a p i x in
         let n = tests.not-true (meets g S) (and-left (not (meets g S)) _ v) in
         let z : anyIdle S m ≡ false = not-true (anyIdle S m) (λ j. let (h, o, l) = any-member (λ (g : Group). not (meets g S)) m j in c h (inr (inl (i, o))) (tests.not-true (meets h S) l)) in
-        cond-no (restReq m S) (cond (anyIdle S m) 0 (must g)) n ∙ cond-no 0 (must g) z ∙ complete0 g k (and-right (not (meets g S)) _ v, and-right (not (meets g S)) _ w) (λ h o. c h (inl (inr o)) (unmet-other g h o n)))
+        cond-no (requiredRest m S) (cond (anyIdle S m) 0 (requiredFirst g)) n ∙ cond-no 0 (requiredFirst g) z ∙ complete0 g k (and-right (not (meets g S)) _ v, and-right (not (meets g S)) _ w) (λ h o. c h (inl (inr o)) (unmet-other g h o n)))
         (rest-has S (also m g) p x)
 
     -- Another member not begun can begin now.
@@ -296,32 +296,32 @@ module _ (p : ℕ) (pos : p ≡ 0 → ⊥) where
 
     -- The fold's place is required.
     mutual
-      pub sound : (g : Group) → Good g → (u : ℕ) → has g u ≡ true → reqAfter g u S ≡ p → After S g u p × Quiet g u
+      pub sound : (g : Group) → Good g → (u : ℕ) → has g u ≡ true → requiredNext g u S ≡ p → After S g u p × Quiet g u
       sound (place n) d u i e = zero-no e
       sound (seq g h) (d, k, a) u i e =
           bool-cases
           (has h u)
           (λ j.
-          let (x, c) = sound h k u j (sym (cond-yes (reqAfter h u S) (cond (done g u S) (must h) (reqAfter g u S)) j) ∙ e) in
+          let (x, c) = sound h k u j (sym (cond-yes (requiredNext h u S) (cond (done g u S) (requiredFirst h) (requiredNext g u S)) j) ∙ e) in
           ((cond-yes (fit h u S p) (fit g u S p || (done g u S && first h p)) j ∙ x .0, cond-yes (passesAfter h u S p) (passesAfter g u S p || passes h p) j ∙ x .1), quiet-h g h a u j (fit-has h u S p (x .0)) c))
           (λ j.
-          let f : cond (done g u S) (must h) (reqAfter g u S) ≡ p = sym (cond-no (reqAfter h u S) (cond (done g u S) (must h) (reqAfter g u S)) j) ∙ e in
+          let f : cond (done g u S) (requiredFirst h) (requiredNext g u S) ≡ p = sym (cond-no (requiredNext h u S) (cond (done g u S) (requiredFirst h) (requiredNext g u S)) j) ∙ e in
           bool-cases
           (done g u S)
           (λ t.
-          let (x, c) = sound0 h k (sym (cond-yes (must h) (reqAfter g u S) t) ∙ f) in
+          let (x, c) = sound0 h k (sym (cond-yes (requiredFirst h) (requiredNext g u S) t) ∙ f) in
           ((cond-no (fit h u S p) (fit g u S p || (done g u S && first h p)) j ∙ or-right (fit g u S p) (and-both t (x .0)), cond-no (passesAfter h u S p) (passesAfter g u S p || passes h p) j ∙ or-right (passesAfter g u S p) (x .1)), quiet-alone g h a u (first-has h p (x .0)) c))
           (λ t.
-          let (x, c) = sound g d u (or-only (has g u) (has h u) j i) (sym (cond-no (must h) (reqAfter g u S) t) ∙ f) in
+          let (x, c) = sound g d u (or-only (has g u) (has h u) j i) (sym (cond-no (requiredFirst h) (requiredNext g u S) t) ∙ f) in
           ((cond-no (fit h u S p) (fit g u S p || (done g u S && first h p)) j ∙ or-left _ (x .0), cond-no (passesAfter h u S p) (passesAfter g u S p || passes h p) j ∙ or-left _ (x .1)), quiet-g g h a u j t (fit-has g u S p (x .0)) c)))
       sound (alt g h) (d, k, a) u i e =
           bool-cases
           (has h u)
           (λ j.
-          let (x, c) = sound h k u j (sym (cond-yes (reqAfter h u S) (reqAfter g u S) j) ∙ e) in
+          let (x, c) = sound h k u j (sym (cond-yes (requiredNext h u S) (requiredNext g u S) j) ∙ e) in
           ((cond-yes (fit h u S p) (fit g u S p) j ∙ x .0, cond-yes (passesAfter h u S p) (passesAfter g u S p) j ∙ x .1), quiet-alt-h g h a u j (fit-has h u S p (x .0)) c))
           (λ j.
-          let (x, c) = sound g d u (or-only (has g u) (has h u) j i) (sym (cond-no (reqAfter h u S) (reqAfter g u S) j) ∙ e) in
+          let (x, c) = sound g d u (or-only (has g u) (has h u) j i) (sym (cond-no (requiredNext h u S) (requiredNext g u S) j) ∙ e) in
           ((cond-no (fit h u S p) (fit g u S p) j ∙ x .0, cond-no (passesAfter h u S p) (passesAfter g u S p) j ∙ x .1), quiet-alt-g g h a u j (fit-has g u S p (x .0)) c))
       sound (opt g) d u i e = sound g d u i e
       sound (plus g) (d, n) u i e =
@@ -331,46 +331,46 @@ module _ (p : ℕ) (pos : p ≡ 0 → ⊥) where
           bool-cases
           (nowDone m u S)
           (λ t.
-          let (x, c) = rest-sound m d (sym (cond-yes (restReq m S) (reqNow m u S) t) ∙ e) in
+          let (x, c) = rest-sound m d (sym (cond-yes (requiredRest m S) (requiredNow m u S) t) ∙ e) in
           ((or-right (nowFit m u S p) (and-both t (x .0)), or-right (nowPasses m u S p) (x .1)), λ h o n. absurd (c h o n)))
           (λ t.
-          let (x, c) = sound-now m d u i (sym (cond-no (restReq m S) (reqNow m u S) t) ∙ e) in
+          let (x, c) = sound-now m d u i (sym (cond-no (requiredRest m S) (requiredNow m u S) t) ∙ e) in
           ((or-left _ (x .0), or-left _ (x .1)), λ h o n q v y. c h o n q v (or-first (nowFit m u S q) _ y (λ l. not-both t (and-left (nowDone m u S) _ l)))))
 
-      sound-now : (m : Members) → GoodM m → (u : ℕ) → hasM m u ≡ true → reqNow m u S ≡ p → AfterM S m u p × QuietM m u
+      sound-now : (m : Members) → GoodM m → (u : ℕ) → hasM m u ≡ true → requiredNow m u S ≡ p → AfterM S m u p × QuietM m u
       sound-now (one g) d u i e = sound g d u i e
       sound-now (also m g) (d, k, a) u i e =
           bool-cases
           (has g u)
           (λ j.
-          let (x, c) = sound g k u j (sym (cond-yes (reqAfter g u S) (reqNow m u S) j) ∙ e) in
+          let (x, c) = sound g k u j (sym (cond-yes (requiredNext g u S) (requiredNow m u S) j) ∙ e) in
           ((cond-yes (fit g u S p) (nowFit m u S p) j ∙ x .0, cond-yes (passesAfter g u S p) (nowPasses m u S p) j ∙ x .1), quiet-own m g a u j (fit-has g u S p (x .0)) c))
           (λ j.
-          let (x, c) = sound-now m d u (or-only (hasM m u) (has g u) j i) (sym (cond-no (reqAfter g u S) (reqNow m u S) j) ∙ e) in
+          let (x, c) = sound-now m d u (or-only (hasM m u) (has g u) j i) (sym (cond-no (requiredNext g u S) (requiredNow m u S) j) ∙ e) in
           ((cond-no (fit g u S p) (nowFit m u S p) j ∙ x .0, cond-no (passesAfter g u S p) (nowPasses m u S p) j ∙ x .1), quiet-others m g a u j (nowFit-has m u S p (x .0)) c))
 
     -- And the required place is the fold's.
     mutual
-      pub complete : (g : Group) → Good g → (u : ℕ) → has g u ≡ true → State g u S → After S g u p → Quiet g u → reqAfter g u S ≡ p
+      pub complete : (g : Group) → Good g → (u : ℕ) → has g u ≡ true → State g u S → After S g u p → Quiet g u → requiredNext g u S ≡ p
       complete (place n) d u i s x c = absurd (false≢true (x .0))
       complete (seq g h) (d, k, a) u i s x c =
           bool-cases
           (has h u)
           (λ j.
-          cond-yes (reqAfter h u S) (cond (done g u S) (must h) (reqAfter g u S)) j
+          cond-yes (requiredNext h u S) (cond (done g u S) (requiredFirst h) (requiredNext g u S)) j
           ∙ complete h k u j (seq-second g h a u S j s) (after-second S g h a u p j x) (λ z o n. (λ q v y. c z (inr o) n q v (cond-yes (fit h u S q) (fit g u S q || (done g u S && first h q)) j ∙ y))))
           (λ j.
           let l : has g u ≡ true = or-only (has g u) (has h u) j i in
           let (v, f) = seq-first g h a u S l s in
-          cond-no (reqAfter h u S) (cond (done g u S) (must h) (reqAfter g u S)) j
+          cond-no (requiredNext h u S) (cond (done g u S) (requiredFirst h) (requiredNext g u S)) j
           ∙ or-cases (has g p) (has h p)
           (λ r.
           let w = after-g S g h a u p j r x in
-          cond-no (must h) (reqAfter g u S) (not-true (done g u S) (λ t. done-must S g d u p l t (w .1)))
+          cond-no (requiredFirst h) (requiredNext g u S) (not-true (done g u S) (λ t. done-must S g d u p l t (w .1)))
           ∙ complete g d u l v w (λ z o n. (λ q y t. c z (inl o) n q y (cond-no (fit h u S q) (fit g u S q || (done g u S && first h q)) j ∙ or-left _ t))))
           (λ r.
           let (w, t) = after-h S g h a u p j r x in
-          cond-yes (must h) (reqAfter g u S) t
+          cond-yes (requiredFirst h) (requiredNext g u S) t
           ∙ complete0 h k w (λ z o.
           let (q, y) = some-first z in
           c z (inr o) (fresh-meets z S (held h) (λ m n. other-held h p z m o n) f) q (first-has z q y) (cond-no (fit h u S q) (fit g u S q || (done g u S && first h q)) j ∙ or-right (fit g u S q) (and-both t (first-other p h k z q o (w .0) y)))))
@@ -379,11 +379,11 @@ module _ (p : ℕ) (pos : p ≡ 0 → ⊥) where
           bool-cases
           (has h u)
           (λ j.
-          cond-yes (reqAfter h u S) (reqAfter g u S) j
+          cond-yes (requiredNext h u S) (requiredNext g u S) j
           ∙ complete h k u j (alt-second g h a u S j s) (alt-after-h S g h a u p j x) (λ z o n. (λ q v y. c z (inr o) n q v (cond-yes (fit h u S q) (fit g u S q) j ∙ y))))
           (λ j.
           let l : has g u ≡ true = or-only (has g u) (has h u) j i in
-          cond-no (reqAfter h u S) (reqAfter g u S) j
+          cond-no (requiredNext h u S) (requiredNext g u S) j
           ∙ complete g d u l (alt-first g h a u S l s) (alt-after-g S g h a u p j x) (λ z o n. (λ q v y. c z (inl o) n q v (cond-no (fit h u S q) (fit g u S q) j ∙ y))))
       complete (opt g) d u i s x c = complete g d u i (opt-state g u S s) x c
       complete (plus g) (d, n) u i (s, z, e, v, w) x c =
@@ -395,22 +395,22 @@ module _ (p : ℕ) (pos : p ≡ 0 → ⊥) where
           (nowDone m u S)
           (λ n.
           let w = and-rest S m d u p i t n x in
-          cond-yes (restReq m S) (reqNow m u S) n
+          cond-yes (requiredRest m S) (requiredNow m u S) n
           ∙ rest-complete m d w (λ h o r. let (q, y) = some-first h in c h o r q (first-has h q y) (or-right (nowFit m u S q) (and-both n (rest-next m d h o r w q y)))))
           (λ n.
           let w = and-now S m d u p i t n x in
-          cond-no (restReq m S) (reqNow m u S) n
+          cond-no (requiredRest m S) (requiredNow m u S) n
           ∙ complete-now m d u i v w (λ h o r. (λ q y l. c h o r q y (or-left _ l))))
 
-      complete-now : (m : Members) → GoodM m → (u : ℕ) → hasM m u ≡ true → StateM m u S → AfterM S m u p → QuietM m u → reqNow m u S ≡ p
+      complete-now : (m : Members) → GoodM m → (u : ℕ) → hasM m u ≡ true → StateM m u S → AfterM S m u p → QuietM m u → requiredNow m u S ≡ p
       complete-now (one g) d u i s x c = complete g d u i (one-state g u S s) x c
       complete-now (also m g) (d, k, a) u i s x c =
           bool-cases
           (has g u)
           (λ j.
-          cond-yes (reqAfter g u S) (reqNow m u S) j
+          cond-yes (requiredNext g u S) (requiredNow m u S) j
           ∙ complete g k u j (more-state m g a u S s .0 j) (now-own S m g u p j x) (λ z o n. (λ q v y. c z (inl (inr o)) n q v (cond-yes (fit g u S q) (nowFit m u S q) j ∙ y))))
           (λ j.
           let l : hasM m u ≡ true = or-only (hasM m u) (has g u) j i in
-          cond-no (reqAfter g u S) (reqNow m u S) j
+          cond-no (requiredNext g u S) (requiredNow m u S) j
           ∙ complete-now m d u l (more-state m g a u S s .1 l) (now-others S m g u p j x) (λ z o n. (λ q v y. c z (inl (inl o)) n q v (cond-no (fit g u S q) (nowFit m u S q) j ∙ y))))

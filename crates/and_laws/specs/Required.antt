@@ -13,7 +13,7 @@ use Rattle.and_laws.specs.Base.{mem, Ends}
 use Rattle.and_laws.specs.Sets.{held, meets, Good, meets-common, common-meets, held-has}
 use Rattle.and_laws.specs.Left.{Agrees}
 use Rattle.and_laws.specs.Rest.{anyM}
-use Rattle.and_laws.specs.Decide.{passes, fit, passesAfter, next-fold, must-fold, next-start, must-start}
+use Rattle.and_laws.specs.Decide.{passes, fit, passesAfter, next-fold, requiredFirst-fold, next-start, requiredFirst-start}
 
 -- "A place is required if it may come next and every walk that continues the places taken passes it from here on."
 abbrev pub Forced : Group → List ℕ → ℕ → Type 0
@@ -114,8 +114,8 @@ module _ (g : Group) (good : Good g) (u : ℕ) (S : ℕ → Bool) (s : List ℕ)
 
   pub forced-fold : (fit g u S p && passesAfter g u S p ≡ true) ↔ Forced g s p
   forced-fold = (
-    λ i. (next-fold g good u S s e agree begun p .0 (and-left (fit g u S p) _ i), λ t w. mem-memᴰ t p (must-fold g good u S s e agree begun p .0 (and-right (fit g u S p) _ i) t w)),
-    λ (x, f). and-both (next-fold g good u S s e agree begun p .1 x) (must-fold g good u S s e agree begun p .1 (λ t w. memᴰ-mem t p (f t w))),
+    λ i. (next-fold g good u S s e agree begun p .0 (and-left (fit g u S p) _ i), λ t w. mem-memᴰ t p (requiredFirst-fold g good u S s e agree begun p .0 (and-right (fit g u S p) _ i) t w)),
+    λ (x, f). and-both (next-fold g good u S s e agree begun p .1 x) (requiredFirst-fold g good u S s e agree begun p .1 (λ t w. memᴰ-mem t p (f t w))),
   )
 
 module _ (g : Group) (p : ℕ) where
@@ -124,6 +124,6 @@ module _ (g : Group) (p : ℕ) where
 
   pub forced-start : (first g p && passes g p ≡ true) ↔ Forced g [] p
   forced-start = (
-    λ i. (next-start g p .0 (and-left (first g p) _ i), λ t w. mem-memᴰ t p (must-start g p .0 (and-right (first g p) _ i) t w)),
-    λ (x, f). and-both (next-start g p .1 x) (must-start g p .1 (λ t w. memᴰ-mem t p (f t w))),
+    λ i. (next-start g p .0 (and-left (first g p) _ i), λ t w. mem-memᴰ t p (requiredFirst-start g p .0 (and-right (first g p) _ i) t w)),
+    λ (x, f). and-both (next-start g p .1 x) (requiredFirst-start g p .1 (λ t w. memᴰ-mem t p (f t w))),
   )

@@ -7,14 +7,14 @@ use mathlib.Core.Logic.{_↔_, Iff·trans}
 use mathlib.Core.List.{List, [], _∷_, _++_}
 use native.Mathlib.Omega.{arith}
 use Rattle.basic_laws.specs.Truth.{bool-cases}
-use Rattle.model_sets.specs.Sets.{has, nullable, first, last, follow, must, nextIn, completeIn, requiredIn}
+use Rattle.model_sets.specs.Sets.{has, nullable, first, last, follow, requiredFirst, nextIn, completeIn, requiredIn}
 use Rattle.rules.specs.Walk.{Group, Members, Begins, MayComeNext, Complete, Required}
 use Rattle.and_laws.specs.Base.{Ends, ends-snoc}
 use Rattle.and_laws.specs.Sets.{held, Plain, Good}
 use Rattle.and_laws.specs.Left.{Agrees}
 use Rattle.and_laws.specs.Decide.{fit, done, next-fold, complete-fold, next-start, complete-start}
 use Rattle.and_laws.specs.Meant.{required-meant}
-use Rattle.and_laws.specs.Req.{reqAfter}
+use Rattle.and_laws.specs.Req.{requiredNext}
 use Rattle.and_laws.specs.Number.{number-required, number-required-start}
 use Rattle.and_laws.specs.Rows.{may, fit-row, plain-may}
 use Rattle.and_laws.specs.Levels.{around, blocksIn, loneIn, mayIn, blocks-in, lone-in, may-in}
@@ -31,8 +31,8 @@ completeFrom g zero S = nullable g
 completeFrom g (suc u) S = done g (suc u) S
 
 abbrev pub requiredFrom : Group → ℕ → (ℕ → Bool) → ℕ
-requiredFrom g zero S = must g
-requiredFrom g (suc u) S = reqAfter g (suc u) S
+requiredFrom g zero S = requiredFirst g
+requiredFrom g (suc u) S = requiredNext g (suc u) S
 
 -- The place u is the last of s, and 0 if there is none.
 abbrev pub IsLast : List ℕ → ℕ → Type 0
@@ -54,7 +54,7 @@ module _ (g : Group) (good : Good g) (S : ℕ → Bool) where
   complete-from (suc u) s e agree begun = complete-fold g good (suc u) S s e agree begun
 
   pub required-from : (u : ℕ) (s : List ℕ) → IsLast s u → Agrees (held g) s S → Begins g s → (p : ℕ) → (p ≡ 0 → ⊥) → (requiredFrom g u S ≡ p) ↔ Required g s p
-  required-from zero s e agree begun p pos = subst (λ (l : List ℕ). (must g ≡ p) ↔ Required g l p) (sym e) (Iff·trans (number-required-start g good p pos) (required-meant g [] p))
+  required-from zero s e agree begun p pos = subst (λ (l : List ℕ). (requiredFirst g ≡ p) ↔ Required g l p) (sym e) (Iff·trans (number-required-start g good p pos) (required-meant g [] p))
   required-from (suc u) s e agree begun p pos = Iff·trans (number-required g good (suc u) S s e agree begun p pos) (required-meant g s p)
 
 -- The number u is 0, or a place of the group that was taken.

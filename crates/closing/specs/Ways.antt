@@ -16,7 +16,7 @@ use Rattle.document_laws.specs.Decide.{decided}
 use Rattle.type_tables.specs.Tables.{Facts}
 use Rattle.event_buffer.specs.Buffers.{noted, Puts}
 use Rattle.event_buffer.specs.EventByEvent.{puts-none, puts-then}
-use Rattle.open_elements.specs.declared.Open.{Open}
+use Rattle.open_elements.specs.declared.OpenElements.{OpenElements}
 use Rattle.open_elements.specs.declared.Outcome.{Outcome}
 use Rattle.open_elements.specs.Stands.{bare, ended, Ranged, Stands}
 use Rattle.open_elements.specs.Becomes.{StandsWith, becomes-refused, becomes-got, was-refused, was-got}
@@ -29,7 +29,7 @@ use Rattle.basic_laws.specs.Numbers.{none-there}
 
 -- An end tag
 
-pub tag-unopened : (facts : List ℕ) (x at after n : ℕ) (o : Open) (numbers bytes : List ℕ) → Ranged o → isOpen x (bare o) ≡ false → Tagged facts x at after n o numbers bytes (left o n 11) numbers bytes
+pub tag-unopened : (facts : List ℕ) (x at after n : ℕ) (o : OpenElements) (numbers bytes : List ℕ) → Ranged o → isOpen x (bare o) ≡ false → Tagged facts x at after n o numbers bytes (left o n 11) numbers bytes
 tag-unopened facts x at after n o numbers bytes h i =
     record {
       brings = record { ranged = h; small = omega arith; events = []; puts = puts-none numbers bytes n; counted = omega arith; plain = plain-none };
@@ -39,15 +39,15 @@ tag-unopened facts x at after n o numbers bytes h i =
     }
 
 -- An end tag of an open element, as the loop leaves it.
-pub record Sought (facts : List ℕ) (x at n : ℕ) (o : Open) (numbers bytes : List ℕ) (r : Outcome) (numbers′ bytes′ : List ℕ) : Type 0 where
+pub record Sought (facts : List ℕ) (x at n : ℕ) (o : OpenElements) (numbers bytes : List ℕ) (r : Outcome) (numbers′ bytes′ : List ℕ) : Type 0 where
   pub until : Until facts x at n o numbers bytes r numbers′ bytes′
   pub few : o .count ≤ TAGLVL
   pub there : isOpen x (bare o) ≡ true
 
-pub sought : {facts : List ℕ} {x at n : ℕ} {o : Open} {numbers bytes : List ℕ} {r : Outcome} {numbers′ bytes′ : List ℕ} → Until facts x at n o numbers bytes r numbers′ bytes′ → Ranged o → isOpen x (bare o) ≡ true → Sought facts x at n o numbers bytes r numbers′ bytes′
+pub sought : {facts : List ℕ} {x at n : ℕ} {o : OpenElements} {numbers bytes : List ℕ} {r : Outcome} {numbers′ bytes′ : List ℕ} → Until facts x at n o numbers bytes r numbers′ bytes′ → Ranged o → isOpen x (bare o) ≡ true → Sought facts x at n o numbers bytes r numbers′ bytes′
 sought u h i = record { until = u; few = h .few; there = i }
 
-module _ {facts : List ℕ} {x at : ℕ} (after : ℕ) {n : ℕ} {o : Open} {numbers bytes : List ℕ} {r : Outcome} {numbers′ bytes′ : List ℕ} (k : Sought facts x at n o numbers bytes r numbers′ bytes′) where
+module _ {facts : List ℕ} {x at : ℕ} (after : ℕ) {n : ℕ} {o : OpenElements} {numbers bytes : List ℕ} {r : Outcome} {numbers′ bytes′ : List ℕ} (k : Sought facts x at n o numbers bytes r numbers′ bytes′) where
   abbrev events : List Event
   events = k .until .brings .events
 
@@ -115,7 +115,7 @@ module _ {facts : List ℕ} {x at : ℕ} (after : ℕ) {n : ℕ} {o : Open} {num
                 ∙ close-incomplete s es (decided s es) x at after (a .parent) (a .others) (y .current) (y .events) (here .0 .current .entered .number ∙ k .until .reached nothing l) (stands-complete (here .0) s ∙ t));
           }
 
-      pub tag-closed : r .open .complete ≡ true → {next : Open} {m : ℕ} {numbers″ bytes″ : List ℕ} → next ≡ ended (r .open) → m ≡ r .events + 1 → Puts numbers′ bytes′ (r .events) (noted 3 x at (after - at) 0 ∷ []) numbers″ bytes″
+      pub tag-closed : r .open .complete ≡ true → {next : OpenElements} {m : ℕ} {numbers″ bytes″ : List ℕ} → next ≡ ended (r .open) → m ≡ r .events + 1 → Puts numbers′ bytes′ (r .events) (noted 3 x at (after - at) 0 ∷ []) numbers″ bytes″
           → Tagged facts x at after n o numbers bytes (left next m 0) numbers″ bytes″
       tag-closed t e c p =
           let event = endWritten x at after in
@@ -140,7 +140,7 @@ module _ {facts : List ℕ} {x at : ℕ} (after : ℕ) {n : ℕ} {o : Open} {num
 abbrev Are : List Event → List Event → Type 0
 Are ev x = x ≡ ev
 
-module _ {facts : List ℕ} {at n : ℕ} {o : Open} {numbers bytes : List ℕ} {r : Outcome} {numbers′ bytes′ : List ℕ} (u : Until facts 0 at n o numbers bytes r numbers′ bytes′) (few : o .count ≤ TAGLVL) where
+module _ {facts : List ℕ} {at n : ℕ} {o : OpenElements} {numbers bytes : List ℕ} {r : Outcome} {numbers′ bytes′ : List ℕ} (u : Until facts 0 at n o numbers bytes r numbers′ bytes′) (few : o .count ≤ TAGLVL) where
   abbrev put : List Event
   put = u .brings .events
 

@@ -7,7 +7,7 @@
 use layout::ElementNo;
 use layout::FACTS;
 use layout::Place;
-use open_elements::Open;
+use open_elements::OpenElements;
 use open_elements::Outcome;
 ghost use Prim.Native.Nat.{_+_, _≤_, _<_};
 ghost use Rattle.rules.specs.Bytes.{elementLimit};
@@ -19,7 +19,7 @@ ghost use Rattle.closing.specs.Closed.{Tagged, Finished};
 // nor how many events there are, nor what the buffers hold: nobody reads them.
 pub fn end_tag(
     facts: &[u8; FACTS],
-    state: Open,
+    state: OpenElements,
     x: ElementNo,
     at: usize,
     after: usize,
@@ -69,7 +69,7 @@ pub fn end_tag(
 // end is refused, nor are the events and the buffers decided.
 pub fn finish(
     facts: &[u8; FACTS],
-    state: Open,
+    state: OpenElements,
     at: usize,
     n: usize,
     numbers: &mut [u32],

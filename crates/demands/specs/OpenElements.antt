@@ -33,23 +33,23 @@ use Rattle.turn_laws.specs.Turns.{Reaches}
 use Rattle.type_tables.specs.Tables.{Tables}
 use Rattle.layout.specs.declared.ElementNo.{ElementNo}
 use Rattle.layout.specs.declared.Place as typed
-use Rattle.open_elements.specs.declared.Open.{Open}
+use Rattle.open_elements.specs.declared.OpenElements.{OpenElements}
 use Rattle.open_elements.specs.declared.Outcome.{Outcome}
 use Rattle.open_elements.specs.Stands.{fresh, opening, Ranged, Stands, Taking}
 use Rattle.open_elements.specs.Marks.{AllSay}
 use Rattle.open_elements.specs.Methods.{ranged-fresh, ranged-taking, ranged-opening, ranged-ended}
-use Rattle.open_elements.proofs.Open.new as new
-use Rattle.open_elements.proofs.Open.new.Reads as new-reads
-use Rattle.open_elements.proofs.Open.take as take
-use Rattle.open_elements.proofs.Open.take.Reads as take-reads
-use Rattle.open_elements.proofs.Open.start as start
-use Rattle.open_elements.proofs.Open.start.Reads as start-reads
-use Rattle.open_elements.proofs.Open.start_required as start-required
-use Rattle.open_elements.proofs.Open.start_required.Reads as start-required-reads
-use Rattle.open_elements.proofs.Open.infer_end as infer-end
-use Rattle.open_elements.proofs.Open.infer_end.Reads as infer-end-reads
-use Rattle.open_elements.proofs.Open.end as end
-use Rattle.open_elements.proofs.Open.end.Reads as end-reads
+use Rattle.open_elements.proofs.OpenElements.new as new
+use Rattle.open_elements.proofs.OpenElements.new.Reads as new-reads
+use Rattle.open_elements.proofs.OpenElements.take as take
+use Rattle.open_elements.proofs.OpenElements.take.Reads as take-reads
+use Rattle.open_elements.proofs.OpenElements.start as start
+use Rattle.open_elements.proofs.OpenElements.start.Reads as start-reads
+use Rattle.open_elements.proofs.OpenElements.start_required as start-required
+use Rattle.open_elements.proofs.OpenElements.start_required.Reads as start-required-reads
+use Rattle.open_elements.proofs.OpenElements.infer_end as infer-end
+use Rattle.open_elements.proofs.OpenElements.infer_end.Reads as infer-end-reads
+use Rattle.open_elements.proofs.OpenElements.end as end
+use Rattle.open_elements.proofs.OpenElements.end.Reads as end-reads
 use Rattle.left_out_ends.specs.Until.{inferEnds}
 use Rattle.left_out_ends.proofs.end_until as end-until
 use Rattle.left_out_ends.proofs.end_until.Reads as end-until-reads
@@ -86,40 +86,40 @@ use Rattle.moments.specs.Results.{passes-beside, document-beside, reaches-leads
 use Rattle.moments.specs.Steps.{stops-lead, infers-start-does, placed-moment, places-leads, places-data, until-leads, finished-beside}
 
 -- Demand 1, "keeps between 0 and 24 elements open", and what is kept of them lies in the array of 24 entries.
-abbrev pub KeepsFew : Open → Type 0
+abbrev pub KeepsFew : OpenElements → Type 0
 KeepsFew o = (o .count ≤ TAGLVL) × (length (o .around) ≡ 24)
 
-keeps-few : {o : Open} → Ranged o → KeepsFew o
+keeps-few : {o : OpenElements} → Ranged o → KeepsFew o
 keeps-few h = (h .few, h .whole)
 
 -- Before and after each method, whatever the tables hold: open elements that any function of the program hands to a method are so, since the method
 -- requires it, and so are those that it is handed back.
-pub new-few : (κs : Lfts 0) (a : ArgsD new.signature κs) (r : Open) (e : AtExit new.ended κs) → new-reads.Learnt κs a r e → KeepsFew r
+pub new-few : (κs : Lfts 0) (a : ArgsD new.signature κs) (r : OpenElements) (e : AtExit new.ended κs) → new-reads.Learnt κs a r e → KeepsFew r
 new-few κs a r e made = keeps-few (subst Ranged (sym made) ranged-fresh)
 
-pub take-few : (κs : Lfts 3) (a : ArgsD take.signature κs) (r : Open) (e : AtExit take.ended κs) → take-reads.Asked κs a → take-reads.Learnt κs a r e → KeepsFew (a .0) × KeepsFew r
+pub take-few : (κs : Lfts 3) (a : ArgsD take.signature κs) (r : OpenElements) (e : AtExit take.ended κs) → take-reads.Asked κs a → take-reads.Learnt κs a r e → KeepsFew (a .0) × KeepsFew r
 take-few κs a r e asked made = (keeps-few (asked .0), keeps-few (ranged-taking made (asked .0) (asked .1)))
 
-pub start-few : (κs : Lfts 1) (a : ArgsD start.signature κs) (r : Open) (e : AtExit start.ended κs) → start-reads.Asked κs a → start-reads.Learnt κs a r e → KeepsFew (a .0) × KeepsFew r
+pub start-few : (κs : Lfts 1) (a : ArgsD start.signature κs) (r : OpenElements) (e : AtExit start.ended κs) → start-reads.Asked κs a → start-reads.Learnt κs a r e → KeepsFew (a .0) × KeepsFew r
 start-few κs a r e asked made = (keeps-few (asked .0), keeps-few (subst Ranged (sym made) (ranged-opening (now (a .1 .0)) (a .1 .1 .0 .0) (asked .0) (asked .1) (asked .2))))
 
-pub start-required-few : (κs : Lfts 3) (a : ArgsD start-required.signature κs) (r : Open) (e : AtExit start-required.ended κs) → start-required-reads.Asked κs a → start-required-reads.Learnt κs a r e → KeepsFew (a .0) × KeepsFew r
+pub start-required-few : (κs : Lfts 3) (a : ArgsD start-required.signature κs) (r : OpenElements) (e : AtExit start-required.ended κs) → start-required-reads.Asked κs a → start-required-reads.Learnt κs a r e → KeepsFew (a .0) × KeepsFew r
 start-required-few κs a r e asked made =
     let taken = ranged-taking (made .taking) (asked .0) (asked .0 .required) in
     let less : made .taken .count < TAGLVL = omega (arith, made .taking .count, asked .1) in
     (keeps-few (asked .0), keeps-few (subst Ranged (sym (made .opens)) (ranged-opening (now (a .1 .0)) (a .1 .1 .1 .1 .0 .0) taken less (asked .2))))
 
-pub infer-end-few : (κs : Lfts 0) (a : ArgsD infer-end.signature κs) (r : Open) (e : AtExit infer-end.ended κs) → infer-end-reads.Asked κs a → infer-end-reads.Learnt κs a r e → KeepsFew (a .0) × KeepsFew r
+pub infer-end-few : (κs : Lfts 0) (a : ArgsD infer-end.signature κs) (r : OpenElements) (e : AtExit infer-end.ended κs) → infer-end-reads.Asked κs a → infer-end-reads.Learnt κs a r e → KeepsFew (a .0) × KeepsFew r
 infer-end-few κs a r e asked made = (keeps-few (asked .0), keeps-few (subst Ranged (sym made) (ranged-ended (asked .0) (asked .1))))
 
-pub end-few : (κs : Lfts 0) (a : ArgsD end.signature κs) (r : Open) (e : AtExit end.ended κs) → end-reads.Asked κs a → end-reads.Learnt κs a r e → KeepsFew (a .0) × KeepsFew r
+pub end-few : (κs : Lfts 0) (a : ArgsD end.signature κs) (r : OpenElements) (e : AtExit end.ended κs) → end-reads.Asked κs a → end-reads.Learnt κs a r e → KeepsFew (a .0) × KeepsFew r
 end-few κs a r e asked made = (keeps-few (asked .0), keeps-few (subst Ranged (sym made) (ranged-ended (asked .0) (asked .1))))
 
 -- So are those that the steps of a start tag or data, an end tag and the document's end are handed and hand back, where they refuse as well.
 pub ends-few : (κs : Lfts 7) (a : ArgsD step-ends.signature κs) (r : Stop) (e : AtExit step-ends.ended κs) → step-ends-reads.Asked κs a → step-ends-reads.Learnt κs a r e → KeepsFew (a .1 .1 .1 .1 .1 .0) × KeepsFew (r .open)
 ends-few κs a r e asked stops = (keeps-few (asked .0), keeps-few (stops .turns .ranged))
 
-pub infer-start-few : (κs : Lfts 7) (a : ArgsD infer-start.signature κs) (r : Open) (e : AtExit infer-start.ended κs) → infer-start-reads.Asked κs a → infer-start-reads.Learnt κs a r e → KeepsFew (a .1 .1 .1 .1 .1 .0) × KeepsFew r
+pub infer-start-few : (κs : Lfts 7) (a : ArgsD infer-start.signature κs) (r : OpenElements) (e : AtExit infer-start.ended κs) → infer-start-reads.Asked κs a → infer-start-reads.Learnt κs a r e → KeepsFew (a .1 .1 .1 .1 .1 .0) × KeepsFew r
 infer-start-few κs a r e asked infers =
     let made = infers .starting in
     let taken = ranged-taking (made .taking) (asked .0) (asked .0 .required) in
@@ -142,26 +142,26 @@ finish-few κs a r e asked finished = (keeps-few (asked .0), keeps-few (finished
 -- moment each act (`Act` of the rules: a start, written or inferred, an end, written or inferred, data) leads to a moment, with whatever the methods of the
 -- open elements make of it (`Does`: what they promise), and they may be called for it (`Asks`): so it is wherever a token has come to, though it may still be
 -- refused. `bits` is what the program keeps beside of the members of "&" groups that have begun, and M is the type's table of members.
-pub moment-few : (es : List Element) (M bits : List ℕ) (z : State) (o : Open) → Moment es M bits z o → (o .count ≡ length (z .around)) × KeepsFew o
+pub moment-few : (es : List Element) (M bits : List ℕ) (z : State) (o : OpenElements) → Moment es M bits z o → (o .count ≡ length (z .around)) × KeepsFew o
 moment-few es M bits z o m = (m .many, keeps-few (m .ranged))
 
-pub moment-marks : (es : List Element) (M bits : List ℕ) (z : State) (o : Open) → Moment es M bits z o
-    → (o .element .0 ≡ z .current .number) × ((g : Group) (ps : List Place) (n : ℕ) → contentOf es (z .current .number) ≡ model g ps n → MarksMean (o .complete) (o .required .0) g (z .current .taken))
+pub moment-marks : (es : List Element) (M bits : List ℕ) (z : State) (o : OpenElements) → Moment es M bits z o
+    → (o .element .0 ≡ z .current .element) × ((g : Group) (ps : List Place) (n : ℕ) → contentOf es (z .current .element) ≡ model g ps n → MarksMean (o .complete) (o .required .0) g (z .current .taken))
 moment-marks es M bits z o m = (m .marks .current .element, λ g ps n e. m .marks .current .marks e)
 
 -- So it is of each element around the current one: the entries of the array say it of the elements of the rules' state, the innermost first (`AllSay` of
 -- open_elements/specs/Marks).
-pub moment-marks-around : (es : List Element) (M bits : List ℕ) (z : State) (o : Open) → Moment es M bits z o → AllSay es (o .around) (o .count) (z .around)
+pub moment-marks-around : (es : List Element) (M bits : List ℕ) (z : State) (o : OpenElements) → Moment es M bits z o → AllSay es (o .around) (o .count) (z .around)
 moment-marks-around es M bits z o m = m .marks .around
 
 pub first-moment : (c : Settings) (s : List ℕ) (es : List Element) → Accepts c s es → (M bits : List ℕ) → Moment es M bits nothingOpen fresh
 first-moment c s es accepted M bits = moment-first s es accepted
 
 module _ (s : List ℕ) (es : List Element) (rows places facts M : List ℕ) (tables : Tables s es rows places facts M) (D : Decisions) (means : Means s es D) where
-  pub each-act : (z y : State) (o q : Open) (bits bits′ : List ℕ) → Moment es M bits z o → (a : Act s es D z y) → Few y → Does s es D rows M a o bits q bits′ → Moment es M bits′ y q
+  pub each-act : (z y : State) (o q : OpenElements) (bits bits′ : List ℕ) → Moment es M bits z o → (a : Act s es D z y) → Few y → Does s es D rows M a o bits q bits′ → Moment es M bits′ y q
   each-act z y o q bits bits′ m a few does = moment-act tables D means m a few does
 
-  pub each-act-asked : (z y : State) (o : Open) (bits : List ℕ) → Moment es M bits z o → (a : Act s es D z y) → Few y → Asks s es D rows M a o
+  pub each-act-asked : (z y : State) (o : OpenElements) (bits : List ℕ) → Moment es M bits z o → (a : Act s es D z y) → Few y → Asks s es D rows M a o
   each-act-asked z y o bits m a few = moment-asks tables D means m a few
 
 -- Before and after each method, "At every moment both must equal what 01's definition says of the places taken": the methods are all that changes the open
@@ -170,12 +170,12 @@ module _ (s : List ℕ) (es : List Element) (rows places facts M : List ℕ) (ta
 -- written is two calls, `take` and `start`, with a moment between them.
 
 -- `new`: nothing is open yet.
-pub new-moment : (κs : Lfts 0) (a : ArgsD new.signature κs) (r : Open) (e : AtExit new.ended κs) → new-reads.Learnt κs a r e
+pub new-moment : (κs : Lfts 0) (a : ArgsD new.signature κs) (r : OpenElements) (e : AtExit new.ended κs) → new-reads.Learnt κs a r e
     → (c : Settings) (s : List ℕ) (es : List Element) → Accepts c s es → (M bits : List ℕ) → Moment es M bits nothingOpen r
 new-moment κs a r e made c s es accepted M bits = subst (Moment es M bits nothingOpen) (sym made) (moment-first s es accepted)
 
 -- `take`, by the tables of the type, of the place as which a start tag or a data byte fits: that place is taken in the rules' state.
-pub take-fitting : (κs : Lfts 3) (a : ArgsD take.signature κs) (r : Open) (e : AtExit take.ended κs) → take-reads.Learnt κs a r e
+pub take-fitting : (κs : Lfts 3) (a : ArgsD take.signature κs) (r : OpenElements) (e : AtExit take.ended κs) → take-reads.Learnt κs a r e
     → (s : List ℕ) (es : List Element) (places facts : List ℕ) → Tables s es (now (a .1 .0)) places facts (now (a .1 .1 .0)) → (D : Decisions) → Means s es D
     → let o = a .0 in
     let M = now (a .1 .1 .0) in
@@ -185,7 +185,7 @@ take-fitting κs a r e made s es places facts tables D means z m t same some =
     moment-took tables D means m (fits t (omega (arith, same))) (subst (λ (p : ℕ). Taking (now (a .1 .0)) (now (a .1 .1 .0)) (now (a .1 .1 .1 .0)) p (a .0) r (now (e .1 .1 .1 .0))) same made)
 
 -- `take` of the required place, which is kept with the current element: it is the place that the rules require, and is taken in their state.
-pub take-required : (κs : Lfts 3) (a : ArgsD take.signature κs) (r : Open) (e : AtExit take.ended κs) → take-reads.Learnt κs a r e
+pub take-required : (κs : Lfts 3) (a : ArgsD take.signature κs) (r : OpenElements) (e : AtExit take.ended κs) → take-reads.Learnt κs a r e
     → (s : List ℕ) (es : List Element) (places facts : List ℕ) → Tables s es (now (a .1 .0)) places facts (now (a .1 .1 .0)) → (D : Decisions) → Means s es D
     → let o = a .0 in
     let M = now (a .1 .1 .0) in
@@ -196,7 +196,7 @@ take-required κs a r e made s es places facts tables D means z m same some =
     moment-took tables D means m (required (omega (arith, kept))) (subst (λ (p : ℕ). Taking (now (a .1 .0)) (now (a .1 .1 .0)) (now (a .1 .1 .1 .0)) p (a .0) r (now (e .1 .1 .1 .0))) kept made)
 
 -- `start` of an element that has a model: it is entered in the rules' state.
-pub start-moment : (κs : Lfts 1) (a : ArgsD start.signature κs) (r : Open) (e : AtExit start.ended κs) → start-reads.Asked κs a → start-reads.Learnt κs a r e
+pub start-moment : (κs : Lfts 1) (a : ArgsD start.signature κs) (r : OpenElements) (e : AtExit start.ended κs) → start-reads.Asked κs a → start-reads.Learnt κs a r e
     → (s : List ℕ) (es : List Element) (places facts M : List ℕ) → Tables s es (now (a .1 .0)) places facts M
     → let o = a .0 in
     let k = a .1 .1 .0 .0 in
@@ -204,7 +204,7 @@ pub start-moment : (κs : Lfts 1) (a : ArgsD start.signature κs) (r : Open) (e 
 start-moment κs a r e asked made s es places facts M tables bits z m declared has = subst (Moment es M bits (enter (a .1 .1 .0 .0) z)) (sym made) (moment-entered tables m (a .1 .1 .0 .0) declared has (asked .1))
 
 -- `start_required`, of the element whose start is to be inferred: in the rules' state the required place is taken, and the element entered.
-pub start-required-moment : (κs : Lfts 3) (a : ArgsD start-required.signature κs) (r : Open) (e : AtExit start-required.ended κs) → start-required-reads.Asked κs a → start-required-reads.Learnt κs a r e
+pub start-required-moment : (κs : Lfts 3) (a : ArgsD start-required.signature κs) (r : OpenElements) (e : AtExit start-required.ended κs) → start-required-reads.Asked κs a → start-required-reads.Learnt κs a r e
     → (s : List ℕ) (es : List Element) (places facts : List ℕ) → Tables s es (now (a .1 .0)) places facts (now (a .1 .1 .0)) → (D : Decisions) → Means s es D
     → let o = a .0 in
     let M = now (a .1 .1 .0) in
@@ -214,26 +214,26 @@ start-required-moment κs a r e asked made s es places facts tables D means z m 
 
 -- `infer_end`: the method asks for the mark, so that the content is complete in the rules too. The parent u of the current element is the current one again,
 -- with us around it, and the end is noted. So it is of each end that a start tag, data, an end tag or the document's end infers.
-pub infer-end-moment : (κs : Lfts 0) (a : ArgsD infer-end.signature κs) (r : Open) (e : AtExit infer-end.ended κs) → infer-end-reads.Asked κs a → infer-end-reads.Learnt κs a r e
+pub infer-end-moment : (κs : Lfts 0) (a : ArgsD infer-end.signature κs) (r : OpenElements) (e : AtExit infer-end.ended κs) → infer-end-reads.Asked κs a → infer-end-reads.Learnt κs a r e
     → (c : Settings) (s : List ℕ) (es : List Element) → Accepts c s es → (D : Decisions) → Means s es D → (M bits : List ℕ) (z : State) → Moment es M bits z (a .0) → (at : ℕ)
     → (isComplete s es D (z .current) ≡ true)
     × (u : rules.Open) × (us : List rules.Open) × (z .around ≡ u ∷ us)
-    × Moment es M bits (record { current = u; around = us; events = z .events ++ endInferred (z .current .number) at ∷ [] }) r
+    × Moment es M bits (record { current = u; around = us; events = z .events ++ endInferred (z .current .element) at ∷ [] }) r
 infer-end-moment κs a r e asked made c s es accepted D means M bits z m at =
     let (u, us, parent) = moment-parent s es accepted m (asked .1) in
     (complete-kept s es accepted m D means ∙ asked .2, u, us, parent, subst (Moment es M bits _) (sym made) (moment-ended s es accepted m u us _ parent))
 
 -- `end`, of an end tag, likewise.
-pub end-moment : (κs : Lfts 0) (a : ArgsD end.signature κs) (r : Open) (e : AtExit end.ended κs) → end-reads.Asked κs a → end-reads.Learnt κs a r e
+pub end-moment : (κs : Lfts 0) (a : ArgsD end.signature κs) (r : OpenElements) (e : AtExit end.ended κs) → end-reads.Asked κs a → end-reads.Learnt κs a r e
     → (c : Settings) (s : List ℕ) (es : List Element) → Accepts c s es → (M bits : List ℕ) (z : State) → Moment es M bits z (a .0) → (at after : ℕ)
     → (u : rules.Open) × (us : List rules.Open) × (z .around ≡ u ∷ us)
-    × Moment es M bits (record { current = u; around = us; events = z .events ++ endWritten (z .current .number) at after ∷ [] }) r
+    × Moment es M bits (record { current = u; around = us; events = z .events ++ endWritten (z .current .element) at after ∷ [] }) r
 end-moment κs a r e asked made c s es accepted M bits z m at after =
     let (u, us, parent) = moment-parent s es accepted m (asked .1) in
     (u, us, parent, subst (Moment es M bits _) (sym made) (moment-ended s es accepted m u us _ parent))
 
 -- To note events, which no method does, leaves a moment a moment.
-pub noted-moment : (c : Settings) (s : List ℕ) (es : List Element) → Accepts c s es → (M bits : List ℕ) (z : State) (o : Open) → Moment es M bits z o → (ev : List Event)
+pub noted-moment : (c : Settings) (s : List ℕ) (es : List Element) → Accepts c s es → (M bits : List ℕ) (z : State) (o : OpenElements) → Moment es M bits z o → (ev : List Event)
     → Moment es M bits (record { current = z .current; around = z .around; events = ev }) o
 noted-moment c s es accepted M bits z o m ev = moment-noted s es accepted m ev
 
@@ -250,7 +250,7 @@ module _ (c : Settings) (s d : List ℕ) (es : List Element) (rows places facts 
 
   -- What the program has between tokens is what the acts lead to: `Ranged`, `Stands` and `Reaches` are what its loop keeps (`Going` of document_events).
   -- The state that is handed from token to token is at a moment itself (`there` of `Leads`).
-  pub between-tokens : (at : ℕ) (l : Line) (o : Open) (now : List ℕ) (z : State) → Ranged o → Stands es M now o z → Reaches c s es d at l z
+  pub between-tokens : (at : ℕ) (l : Line) (o : OpenElements) (now : List ℕ) (z : State) → Ranged o → Stands es M now o z → Reaches c s es d at l z
       → Passes c s es (decided s es) d at l z × Leads s es (decided s es) rows M nothingOpen fresh bits z o now
   between-tokens at l o now z g h r = (r .passes, reaches-leads tables bits g h r)
 
@@ -264,7 +264,7 @@ pub ends-step : (κs : Lfts 7) (a : ArgsD step-ends.signature κs) (r : Stop) (e
     → Stops (now (a .0)) (now (a .1 .0)) (now (a .1 .1 .0)) (now (a .1 .1 .1 .0)) (now (a .1 .1 .1 .1 .0)) (a .1 .1 .1 .1 .1 .1 .0 .0) (a .1 .1 .1 .1 .1 .1 .1 .0) (a .1 .1 .1 .1 .1 .1 .1 .1 .0) (a .1 .1 .1 .1 .1 .0) (now (a .1 .1 .1 .1 .1 .1 .1 .1 .1 .0)) (now (a .1 .1 .1 .1 .1 .1 .1 .1 .1 .1 .0)) r (now (e .1 .1 .1 .1 .1 .1 .1 .1 .1 .0)) (now (e .1 .1 .1 .1 .1 .1 .1 .1 .1 .1 .0))
 ends-step κs a r e stops = stops
 
-pub infer-start-step : (κs : Lfts 7) (a : ArgsD infer-start.signature κs) (r : Open) (e : AtExit infer-start.ended κs) → infer-start-reads.Learnt κs a r e
+pub infer-start-step : (κs : Lfts 7) (a : ArgsD infer-start.signature κs) (r : OpenElements) (e : AtExit infer-start.ended κs) → infer-start-reads.Learnt κs a r e
     → InfersStart (now (a .0)) (now (a .1 .0)) (now (a .1 .1 .0)) (now (a .1 .1 .1 .0)) (now (a .1 .1 .1 .1 .0)) (a .1 .1 .1 .1 .1 .1 .0) (a .1 .1 .1 .1 .1 .1 .1 .0) (a .1 .1 .1 .1 .1 .0) (now (a .1 .1 .1 .1 .1 .1 .1 .1 .0)) (now (a .1 .1 .1 .1 .1 .1 .1 .1 .1 .0)) r (now (e .1 .1 .1 .1 .0)) (now (e .1 .1 .1 .1 .1 .1 .1 .1 .0)) (now (e .1 .1 .1 .1 .1 .1 .1 .1 .1 .0))
 infer-start-step κs a r e infers = infers
 
@@ -286,12 +286,12 @@ placed-step κs a r e placed = placed
 pub opens-step : (κs : Lfts 1) (a : ArgsD opens.signature κs) (r : Bool) (e : AtExit opens.ended κs) → opens-reads.Learnt κs a r e → Opens (now (a .0)) (a .1 .0 .0) r
 opens-step κs a r e says = says
 
-pub start-step : (κs : Lfts 1) (a : ArgsD start.signature κs) (r : Open) (e : AtExit start.ended κs) → start-reads.Learnt κs a r e → r ≡ openedBy (now (a .1 .0)) (a .1 .1 .0 .0) true (a .0)
+pub start-step : (κs : Lfts 1) (a : ArgsD start.signature κs) (r : OpenElements) (e : AtExit start.ended κs) → start-reads.Learnt κs a r e → r ≡ openedBy (now (a .1 .0)) (a .1 .1 .0 .0) true (a .0)
 start-step κs a r e made = made
 
 -- Within a start tag that is not refused: the ends that it infers, the starts that it infers, then itself, with a moment before and after each. x is the
 -- element, from `at` to `after`. What the steps give, one after the other, is what these acts lead to.
-module _ (s : List ℕ) (es : List Element) (rows places facts M lists marks : List ℕ) (tables : Tables s es rows places facts M) (x at after n : ℕ) (o : Open) (bits numbers bytes : List ℕ) (q : Open) (bits′ numbers′ bytes′ : List ℕ)
+module _ (s : List ℕ) (es : List Element) (rows places facts M lists marks : List ℕ) (tables : Tables s es rows places facts M) (x at after n : ℕ) (o : OpenElements) (bits numbers bytes : List ℕ) (q : OpenElements) (bits′ numbers′ bytes′ : List ℕ)
     (steps : Steps rows places facts M lists marks x at after n o bits numbers bytes q bits′ numbers′ bytes′) where
   pub within-start-tag : 1 ≤ x → x ≤ length es → (z : State) → Moment es M bits z o → (y : State) × (startElement s es (decided s es) x at after z ≡ got y) × Leads s es (decided s es) rows M z o bits y q bits′
   within-start-tag some most z m = steps-lead tables steps some most z m
@@ -341,7 +341,7 @@ within-ends κs a r e stops s es tables most z m = stops-lead tables stops most 
 
 -- Each start that is inferred before it (`infer_start` of inferring), where one or more are left to infer: it is one act, after which there is a moment with
 -- the open elements that are handed back, and one start fewer is left. Nothing is taken yet in the element that it opens.
-pub within-inferred-start : (κs : Lfts 7) (a : ArgsD infer-start.signature κs) (r : Open) (e : AtExit infer-start.ended κs) → infer-start-reads.Asked κs a → infer-start-reads.Learnt κs a r e
+pub within-inferred-start : (κs : Lfts 7) (a : ArgsD infer-start.signature κs) (r : OpenElements) (e : AtExit infer-start.ended κs) → infer-start-reads.Asked κs a → infer-start-reads.Learnt κs a r e
     → (s : List ℕ) (es : List Element) → Tables s es (now (a .0)) (now (a .1 .0)) (now (a .1 .1 .0)) (now (a .1 .1 .1 .0))
     → let M = now (a .1 .1 .1 .0) in
     let o = a .1 .1 .1 .1 .1 .0 in
@@ -395,7 +395,7 @@ pub within-opened-place : (κs : Lfts 7) (a : ArgsD place.signature κs) (r : Ou
     let x = a .1 .1 .1 .1 .1 .1 .1 .0 .0 in
     let at = a .1 .1 .1 .1 .1 .1 .1 .1 .0 in
     let after = a .1 .1 .1 .1 .1 .1 .1 .1 .1 .0 in
-    (lives : Lfts 1) (b : ArgsD start.signature lives) (q : Open) (f : AtExit start.ended lives) → start-reads.Learnt lives b q f → b .0 ≡ r .open → now (b .1 .0) ≡ now (a .0) → b .1 .1 .0 .0 ≡ x
+    (lives : Lfts 1) (b : ArgsD start.signature lives) (q : OpenElements) (f : AtExit start.ended lives) → start-reads.Learnt lives b q f → b .0 ≡ r .open → now (b .1 .0) ≡ now (a .0) → b .1 .1 .0 .0 ≡ x
     → 1 ≤ x → x ≤ length es → hasModel (contentOf es x) ≡ true → r .number ≡ 0 → (z : State) → Moment es M bits z o
     → ((p : typed.Place) → found ≡ Taken p → p .0 ≡ fitting s es (decided s es) (z .current) (tokenOf x)) → ((n : ℕ) → found ≡ Inferred n → z .current .taken ≡ [])
     → (y : State) × (noting es x at after (takeToken s es (decided s es) (tokenOf x) z) ≡ got y) × Leads s es (decided s es) (now (a .0)) M z o bits y q (now (e .1 .1 .1 .1 .0))

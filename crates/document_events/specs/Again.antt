@@ -16,7 +16,7 @@ use Rattle.turn_laws.specs.RunAtOnce.{Again}
 use Rattle.turn_laws.specs.Again.{again-complete, again-required}
 use Rattle.type_tables.specs.Tables.{Entered}
 use Rattle.open_elements.specs.declared.Entry.{Entry}
-use Rattle.open_elements.specs.declared.Open.{Open}
+use Rattle.open_elements.specs.declared.OpenElements.{OpenElements}
 use Rattle.open_elements.specs.Stands.{Kept, Stands}
 
 module _ {es : List Element} {M begun : List ℕ} where
@@ -24,8 +24,8 @@ module _ {es : List Element} {M begun : List ℕ} where
   entered-again {level} {e} {u} {o} {v} h a b =
       record { number = number; declared = h .declared; place = h .place; begins = begins; stands = λ c. stands (h .stands c) }
     where
-      number : v .number ≡ e
-      number = a .number ∙ h .number
+      number : v .element ≡ e
+      number = a .element ∙ h .number
 
       begins : {g : Group} {ps : List Place} {n : ℕ} → contentOf es e ≡ model g ps n → Begins g (v .taken)
       begins {g} {ps} {n} c =
@@ -51,5 +51,5 @@ module _ {es : List Element} {M begun : List ℕ} where
         inner = h .inner;
       }
 
-  pub stands-again : {o : Open} {z : State} {v : rules.Open} → Stands es M begun o z → Again (z .current) v → Begun es v → Stands es M begun o (state v (z .around) (z .events))
+  pub stands-again : {o : OpenElements} {z : State} {v : rules.Open} → Stands es M begun o z → Again (z .current) v → Begun es v → Stands es M begun o (state v (z .around) (z .events))
   stands-again h a b = record { whole = h .whole; few = h .few; current = kept-again (h .current) a b; around = h .around }

@@ -22,7 +22,7 @@ use Rattle.element_index.specs.Indexed.{Indexed}
 use Rattle.list_table.specs.Lists.{Lists}
 use Rattle.type_tables.specs.Tables.{Tables}
 use Rattle.token_due.specs.Freed.{Has}
-use Rattle.open_elements.specs.declared.Open.{Open}
+use Rattle.open_elements.specs.declared.OpenElements.{OpenElements}
 use Rattle.open_elements.specs.declared.Outcome.{Outcome}
 use Rattle.open_elements.specs.Stands.{Ranged, Stands}
 use Rattle.open_elements.specs.Becomes.{StandsWith}
@@ -44,7 +44,7 @@ pub record Turned (c : Settings) (s : List ℕ) (es : List Element) (d M begun :
 
 -- Reading has come to `at` with these elements open; the last tag or data ended at `since`, the last byte 10 or 13 that was ignored at `mark`, and the last run of data
 -- began at `from`. The events so far are in the buffers as far as they fit, with attribute events before each start, as they are if the current element ended here.
-pub record Comes (c : Settings) (s : List ℕ) (es : List Element) (d M begun numbers numbersNow bytes bytesNow : List ℕ) (n at since mark from : ℕ) (o : Open) : Type 0 where
+pub record Comes (c : Settings) (s : List ℕ) (es : List Element) (d M begun numbers numbersNow bytes bytesNow : List ℕ) (n at since mark from : ℕ) (o : OpenElements) : Type 0 where
   pub state : State
   pub reaches : Reaches c s es d at (lineOf since mark) state
   pub latest : Latest c d since from (state .events)
@@ -53,7 +53,7 @@ pub record Comes (c : Settings) (s : List ℕ) (es : List Element) (d M begun nu
 
 -- The same for any elements of which the index, the tables and the lists are. Whatever these hold, the numbers are in range: a token takes at least a
 -- byte and brings at most 1050 events.
-pub record Going (c : Settings) (s elements index rows places facts M lists d begun numbers numbersNow bytes bytesNow : List ℕ) (n at since mark from : ℕ) (o : Open) : Type 0 where
+pub record Going (c : Settings) (s elements index rows places facts M lists d begun numbers numbersNow bytes bytesNow : List ℕ) (n at since mark from : ℕ) (o : OpenElements) : Type 0 where
   pub inside : at ≤ length d
   pub since-inside : since ≤ at
   pub from-inside : from ≤ since

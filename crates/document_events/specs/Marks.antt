@@ -17,7 +17,7 @@ use Rattle.turn_laws.specs.Turns.{Reaches}
 use Rattle.element_index.specs.Indexed.{Indexed}
 use Rattle.list_table.specs.Lists.{Lists}
 use Rattle.type_tables.specs.Tables.{Tables}
-use Rattle.open_elements.specs.declared.Open.{Open}
+use Rattle.open_elements.specs.declared.OpenElements.{OpenElements}
 use Rattle.open_elements.specs.declared.Outcome.{Outcome}
 use Rattle.open_elements.specs.Stands.{Stands}
 use Rattle.open_elements.specs.Marks.{MarksSay, marks-say}
@@ -25,7 +25,7 @@ use Rattle.document_events.specs.Loop.{Turned, Going}
 
 -- Reading the document d, under any settings, has come to `at`, and the rules, by whatever decisions mean the walks, come there with the state z, of which the
 -- marks say what the walks say.
-pub record AtMoment (s : List ℕ) (es : List Element) (given : Settings) (d : List ℕ) (at : ℕ) (o : Open) : Type 0 where
+pub record AtMoment (s : List ℕ) (es : List Element) (given : Settings) (d : List ℕ) (at : ℕ) (o : OpenElements) : Type 0 where
   pub line : Line
   pub state : State
   pub passes : (D : Decisions) → Means s es D → Passes given s es D d at line state
@@ -33,7 +33,7 @@ pub record AtMoment (s : List ℕ) (es : List Element) (given : Settings) (d : L
 
 -- `Reaches` and `Stands` hold before the first token (`reaches-start`, `stands-fresh`), and by the steps of a start tag or data (`Settles` of settling)
 -- and the contract of `closing::end_tag` after each that is not refused: `Going` and `Turned` have both.
-pub at-every-moment : {c : Settings} (s : List ℕ) (es : List Element) → Accepts c s es → {given : Settings} {d M begun : List ℕ} {at : ℕ} {l : Line} {o : Open} {z : State} → Stands es M begun o z → Reaches given s es d at l z → AtMoment s es given d at o
+pub at-every-moment : {c : Settings} (s : List ℕ) (es : List Element) → Accepts c s es → {given : Settings} {d M begun : List ℕ} {at : ℕ} {l : Line} {o : OpenElements} {z : State} → Stands es M begun o z → Reaches given s es d at l z → AtMoment s es given d at o
 at-every-moment s es accepted {d = d} {l = l} {z = z} h r =
     record {
       line = l;
@@ -43,7 +43,7 @@ at-every-moment s es accepted {d = d} {l = l} {z = z} h r =
     }
 
 -- At the start of each turn of the loop, the first one too.
-pub marks-going : {c : Settings} {s elements index rows places facts M lists d begun numbers numbersNow bytes bytesNow : List ℕ} {n at since mark from : ℕ} {o : Open}
+pub marks-going : {c : Settings} {s elements index rows places facts M lists d begun numbers numbersNow bytes bytesNow : List ℕ} {n at since mark from : ℕ} {o : OpenElements}
     → Going c s elements index rows places facts M lists d begun numbers numbersNow bytes bytesNow n at since mark from o
     → (es : List Element) → Indexed s es elements index → Tables s es rows places facts M → Lists (c .nameLength) s es lists → AtMoment s es c d at o
 marks-going {s = s} g es i t l =

@@ -43,7 +43,7 @@ use Rattle.turn_laws.specs.Latest.{Latest, latest-start, latest-start-tag, late
 use Rattle.element_index.specs.Indexed.{Indexed}
 use Rattle.list_table.specs.Lists.{Lists}
 use Rattle.type_tables.specs.Tables.{Tables, Entered}
-use Rattle.open_elements.specs.declared.Open.{Open}
+use Rattle.open_elements.specs.declared.OpenElements.{OpenElements}
 use Rattle.open_elements.specs.declared.Outcome.{Outcome}
 use Rattle.open_elements.specs.Stands.{Becomes, fresh, Ranged}
 use Rattle.open_elements.specs.Becomes.{StandsWith, was-refused, was-got}
@@ -58,8 +58,8 @@ use Rattle.token_due.specs.Freed.{Has, has-behind, freed}
 use Rattle.token_due.specs.EndTags.{due-end-tag}
 use Rattle.settling.specs.Settled.{takes, takes-start, takes-run, Gives, Settles}
 use Rattle.closing.specs.Closed.{Tagged, Finished}
-use Rattle.pieces.specs.declared.Piece.{Piece}
-use Rattle.pieces.specs.declared.Piece.the-variants as found
+use Rattle.pieces.specs.declared.Found.{Found}
+use Rattle.pieces.specs.declared.Found.the-variants as found
 use Rattle.pieces.specs.Finds.{skips, separates, malformed, undeclaredStart, undeclaredEnd, ToSettle, runs, starts, Finds, MarksAt, Onward}
 use Rattle.document_events.specs.declared.Counted.{Counted}
 use Rattle.document_events.specs.declared.Counted.the-variants as counted
@@ -152,7 +152,7 @@ refused-unread c s es d at l z h reach f (undeclaredEnd n e k) = rw (e, k) (refu
 
 -- The loop
 
-pub going-start : (c : Settings) (s elements index rows places facts M lists d begun numbers bytes : List ℕ) {o : Open} → o ≡ fresh → Going c s elements index rows places facts M lists d begun numbers numbers bytes bytes 0 0 0 0 0 o
+pub going-start : (c : Settings) (s elements index rows places facts M lists d begun numbers bytes : List ℕ) {o : OpenElements} → o ≡ fresh → Going c s elements index rows places facts M lists d begun numbers numbers bytes bytes 0 0 0 0 0 o
 unfolding eventNumbers bytesOf withAttributes
 going-start c s elements index rows places facts M lists d begun numbers bytes q =
     rw q (record {
@@ -174,7 +174,7 @@ going-start c s elements index rows places facts M lists d begun numbers bytes q
     })
 
 -- All is read.
-module _ {c : Settings} {s elements index rows places facts M lists d begun numbers numbersNow bytes bytesNow : List ℕ} {n at since mark from : ℕ} {o : Open}
+module _ {c : Settings} {s elements index rows places facts M lists d begun numbers numbersNow bytes bytesNow : List ℕ} {n at since mark from : ℕ} {o : OpenElements}
     (g : Going c s elements index rows places facts M lists d begun numbers numbersNow bytes bytesNow n at since mark from o) (over : length d ≤ at) where
   pub finish-asked : length d ≤ documentLimit → Ranged o × (at < 4294967296) × (n + MOST-EVENTS < 4294967296)
   finish-asked small = (g .ranged, omega (arith, g .inside), omega (arith, g .inside, g .few))
@@ -217,14 +217,14 @@ module _ {c : Settings} {s elements index rows places facts M lists d begun numb
         )
 
 -- A turn of the loop: the document has something at `at`, and this is what piece_at ensures of it, the attributes of a start tag being marked.
-pub record Turn (c : Settings) (s elements index rows places facts M lists d begun numbers numbersNow bytes bytesNow : List ℕ) (n at since mark from : ℕ) (o : Open) (p : Piece) (marks : List ℕ) : Type 0 where
+pub record Turn (c : Settings) (s elements index rows places facts M lists d begun numbers numbersNow bytes bytesNow : List ℕ) (n at since mark from : ℕ) (o : OpenElements) (p : Found) (marks : List ℕ) : Type 0 where
   pub going : Going c s elements index rows places facts M lists d begun numbers numbersNow bytes bytesNow n at since mark from o
   pub inside : at < length d
   pub onward : Onward (length d) at p
   pub said : (es : List Element) → Indexed s es elements index → Tables s es rows places facts M → Lists (c .nameLength) s es lists → (v : rules.Open) → Entered es M begun (o .count) (o .element .0) (o .place .0) v → (since ≡ 0 → isFresh v ≡ true)
       → Finds c s es d (lineOf since mark) v at p × MarksAt c s es d at p marks
 
-module _ {c : Settings} {s elements index rows places facts M lists d begun numbers numbersNow bytes bytesNow : List ℕ} {n at since mark from : ℕ} {o : Open} {p : Piece} {marks : List ℕ}
+module _ {c : Settings} {s elements index rows places facts M lists d begun numbers numbersNow bytes bytesNow : List ℕ} {n at since mark from : ℕ} {o : OpenElements} {p : Found} {marks : List ℕ}
     (turn : Turn c s elements index rows places facts M lists d begun numbers numbersNow bytes bytesNow n at since mark from o p marks) where
   says : (es : List Element) (i : Indexed s es elements index) (t : Tables s es rows places facts M) (l : Lists (c .nameLength) s es lists) → Finds c s es d (lineOf since mark) (turn .going .any es i t l .state .current) at p × MarksAt c s es d at p marks
   says es i t l =

@@ -11,8 +11,8 @@ use layout::PLACES;
 use layout::RECORDS;
 use layout::ROWS;
 use layout::TAGLVL;
-use open_elements::Open;
-use pieces::Piece;
+use open_elements::OpenElements;
+use pieces::Found;
 use text::Fault;
 ghost use mathlib.Core.Path.{_≡_};
 ghost use mathlib.Core.List.{List};
@@ -70,7 +70,7 @@ pub fn events_of(
 {
     let mut at = 0;
     let mut n = 0;
-    let mut o = Open::new();
+    let mut o = OpenElements::new();
     let mut begun = [0u32; BEGUN];
     let mut given = [0u16; GIVEN];
     let mut marks = [0u16; MARKS];
@@ -81,7 +81,7 @@ pub fn events_of(
     while at < d.len() {
         let e = o.element;
         let u = o.place;
-        let p = pieces::piece_at(
+        let p = pieces::found_at(
             long,
             edition,
             s,
@@ -106,7 +106,7 @@ pub fn events_of(
         );
         match p {
             // A start tag of x, or a run of data where x is 0.
-            Piece::Token(x, after) => {
+            Found::Token(x, after) => {
                 // Number 16: the document element has ended.
                 if ways::is_over(o) {
                     return refusal(16, at);
@@ -194,7 +194,7 @@ pub fn events_of(
                 since = after;
                 at = after;
             }
-            Piece::End(x, after) => {
+            Found::End(x, after) => {
                 let t = closing::end_tag(facts, o, x, at, after, n, numbers, bytes);
                 if t.number != 0 {
                     return refusal(t.number, at);
@@ -204,11 +204,11 @@ pub fn events_of(
                 since = after;
                 at = after;
             }
-            Piece::Passed(after) => {
+            Found::Passed(after) => {
                 mark = record_ends::marked(d, at, mark);
                 at = after;
             }
-            Piece::Refused(f) => {
+            Found::Refused(f) => {
                 return Counted::Refused(f);
             }
         }

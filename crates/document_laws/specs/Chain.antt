@@ -102,10 +102,10 @@ link-none k f i e = rw (link, i, e)
 -- The element to infer in the element number n where the place p is required: 0 where it may not be inferred.
 unfoldable pub chosen : List ℕ → List Element → (n p : ℕ) → ℕ
 chosen s es n p =
-    let k = elementOf s es (record { number = n; taken = [] }) p in
+    let k = elementOf s es (record { element = n; taken = [] }) p in
     elim (leb 1 p && (leb 1 k && (startO es k && hasModel (contentOf es k)))) [ true ↦ k | false ↦ 0 ]
 
-pub inferable-is : (s : List ℕ) (es : List Element) (D : Decisions) (o : Open) → inferable s es D o ≡ chosen s es (o .number) (requiredPlace s es D o)
+pub inferable-is : (s : List ℕ) (es : List Element) (D : Decisions) (o : Open) → inferable s es D o ≡ chosen s es (o .element) (requiredPlace s es D o)
 unfolding inferable chosen
 inferable-is s es D o = refl
 
@@ -140,7 +140,7 @@ chosen-may s es n p h = go test refl h
     go false e l = absurd (false≢true l)
 
 pub inferable-may : (s : List ℕ) (es : List Element) (D : Decisions) (o : Open) → leb 1 (inferable s es D o) ≡ true → MayInfer es (requiredPlace s es D o) (inferable s es D o)
-inferable-may s es D o h = rw (inferable-is s es D o) (chosen-may s es (o .number) (requiredPlace s es D o) (rw (inferable-is s es D o) at h))
+inferable-may s es D o h = rw (inferable-is s es D o) (chosen-may s es (o .element) (requiredPlace s es D o) (rw (inferable-is s es D o) at h))
 
 -- The start of an element that is inferred has the name of the place that it takes.
 pub inferable-named : (s : List ℕ) (es : List Element) (D : Decisions) (o : Open) (k : ℕ) → inferable s es D o ≡ k → 1 ≤ k → elementOf s es o (requiredPlace s es D o) ≡ k
@@ -159,7 +159,7 @@ inferable-named s es D o k e l = go (leb 1 p && (leb 1 j && (startO es j && hasM
 
 -- An element in which nothing was taken yet.
 abbrev pub fresh : ℕ → Open
-fresh k = record { number = k; taken = [] }
+fresh k = record { element = k; taken = [] }
 
 module _ (s : List ℕ) (es : List Element) (D : Decisions) (t : Token) where
   -- The elements ks follow one another from o, each the one to infer in the one before, and the token fits at the last (at o, if there is none).

@@ -34,8 +34,8 @@ abbrev pub state : Open → List Open → List Event → State
 state o around ev = record { current = o; around = around; events = ev }
 
 -- The place that an element shows which took p in o.
-pub placeTaken-took : (o : Open) (p : ℕ) → placeTaken (record { number = o .number; taken = o .taken ++ p ∷ [] }) ≡ shown (o .number) p
-placeTaken-took o p = ap (shown (o .number)) (lastOr0-snoc (o .taken) p)
+pub placeTaken-took : (o : Open) (p : ℕ) → placeTaken (record { element = o .element; taken = o .taken ++ p ∷ [] }) ≡ shown (o .element) p
+placeTaken-took o p = ap (shown (o .element)) (lastOr0-snoc (o .taken) p)
 
 -- The state of the parent, where there is one.
 abbrev pub parent : State → State
@@ -54,14 +54,14 @@ At at n k = ((10 ≤ n) × (n ≤ 18)) × (k ≡ at)
 
 -- D answers about o what E answers about v.
 pub record Answers (s : List ℕ) (es : List Element) (D E : Decisions) (o v : Open) : Type 0 where
-  pub number : o .number ≡ v .number
+  pub element : o .element ≡ v .element
   pub fits : (t : Token) → fitting s es D o t ≡ fitting s es E v t
   pub complete : isComplete s es D o ≡ isComplete s es E v
   pub required : requiredPlace s es D o ≡ requiredPlace s es E v
 
 -- They show the same place, where both took the same.
 places-same : {s : List ℕ} {es : List Element} {D E : Decisions} (z y : State) → Answers s es D E (z .current) (y .current) → (p q : ℕ) → p ≡ q → placeTaken (takePlace p z .current) ≡ placeTaken (takePlace q y .current)
-places-same z y a p q e = placeTaken-took (z .current) p ∙ ap₂ shown (a .number) e ∙ sym (placeTaken-took (y .current) q)
+places-same z y a p q e = placeTaken-took (z .current) p ∙ ap₂ shown (a .element) e ∙ sym (placeTaken-took (y .current) q)
 
 -- A place that D has o take: as it fits a token, or as the required one.
 pub data Chosen (s : List ℕ) (es : List Element) (D : Decisions) (o : Open) : ℕ → Type 0 where
@@ -92,22 +92,22 @@ pub record Closed (x : State) : Type 0 where
 
 -- The event of an end that is left out.
 abbrev LeftOut : (at : ℕ) → Open → Event → Event → Type 0
-LeftOut at o e f = (e ≡ f) × (e ≡ endInferred (o .number) at)
+LeftOut at o e f = (e ≡ f) × (e ≡ endInferred (o .element) at)
 
 module _ {s : List ℕ} {es : List Element} {D E : Decisions} {Q : State → State → Type 0} (ends : Ends s es D E Q) where
   isOpen-same : (k : ℕ) (around outer : List Open) (o v : Open) (ev fv : List Event) → Q (state o around ev) (state v outer fv) → isOpen k (o ∷ around) ≡ isOpen k (v ∷ outer)
   unfolding isOpen
-  isOpen-same k [] [] o v ev fv q = ap {B = Bool} (λ n. elim (eqb n k) [ true ↦ true | false ↦ false ]) (ends .alike q .number)
+  isOpen-same k [] [] o v ev fv q = ap {B = Bool} (λ n. elim (eqb n k) [ true ↦ true | false ↦ false ]) (ends .alike q .element)
   isOpen-same k [] (w ∷ outer) o v ev fv q = absurd (omega (arith, ends .depth q))
   isOpen-same k (u ∷ around) [] o v ev fv q = absurd (omega (arith, ends .depth q))
   isOpen-same k (u ∷ around) (w ∷ outer) o v ev fv q =
-      ap₂ {C = Bool} (λ n b. elim (eqb n k) [ true ↦ true | false ↦ b ]) (ends .alike q .number) (isOpen-same k around outer u w ev fv (ends .leave q))
+      ap₂ {C = Bool} (λ n b. elim (eqb n k) [ true ↦ true | false ↦ b ]) (ends .alike q .element) (isOpen-same k around outer u w ev fv (ends .leave q))
 
   endLeftOut-both : (at : ℕ) (o v : Open) → Answers s es D E o v → Both (At at) (LeftOut at o) (endLeftOut s es D at o) (endLeftOut s es E at v)
   unfolding endLeftOut
   endLeftOut-both at o v a =
       either (isComplete s es D o) (isComplete s es E v) (a .complete)
-      (λ x. either (endO es (o .number)) (endO es (v .number)) (ap (endO es) (a .number)) (λ y. read (ap (λ n. endInferred n at) (a .number), refl)) (λ y. stop (omega arith)))
+      (λ x. either (endO es (o .element)) (endO es (v .element)) (ap (endO es) (a .element)) (λ y. read (ap (λ n. endInferred n at) (a .element), refl)) (λ y. stop (omega arith)))
       (λ x. stop (omega arith))
 
   -- With the end of o noted, its parent is the current element.
@@ -127,7 +127,7 @@ module _ {s : List ℕ} {es : List Element} {D E : Decisions} {Q : State → Sta
   closeFrom-both k at after (u ∷ around) (w ∷ outer) o v ev fv q =
       let a = ends .alike q in
       let e = endWritten k at after in
-      either (eqb (o .number) k) (eqb (v .number) k) (ap (λ n. eqb n k) (a .number))
+      either (eqb (o .element) k) (eqb (v .element) k) (ap (λ n. eqb n k) (a .element))
       (λ x. either (isComplete s es D o) (isComplete s es E v) (a .complete)
       (λ y. read (ends .leave (ends .note q e refl), omega arith, record { before = ev; event = e; other = refl; last = refl }))
       (λ y. stop (omega arith)))
@@ -195,7 +195,7 @@ module _ {s : List ℕ} {es : List Element} {D E : Decisions} {Q : State → Sta
   alike q = moves .ends .alike q
 
   inferable-same : {z y : State} → Q z y → inferable s es D (z .current) ≡ inferable s es E (y .current)
-  inferable-same {z} {y} q = inferable-is s es D (z .current) ∙ ap₂ (chosen s es) (alike q .number) (alike q .required) ∙ sym (inferable-is s es E (y .current))
+  inferable-same {z} {y} q = inferable-is s es D (z .current) ∙ ap₂ (chosen s es) (alike q .element) (alike q .required) ∙ sym (inferable-is s es E (y .current))
 
   -- The start of k is inferred, at the required place.
   abbrev opened : Decisions → (at k : ℕ) → State → State
@@ -272,18 +272,18 @@ module _ {s : List ℕ} {es : List Element} {D E : Decisions} {Q : State → Sta
   settleFrom-both t at (u ∷ around) [] o v ev fv q = absurd (omega (arith, moves .ends .depth q))
   settleFrom-both t at (u ∷ around) (w ∷ outer) o v ev fv q =
       let a = alike q in
-      let e = endInferred (o .number) at in
-      let l = left (moves .ends) at around outer o v u w ev fv e (endInferred (v .number) at) q (ap (λ n. endInferred n at) (a .number), refl) in
-      let n : u .number ≡ w .number = alike l .number in
-      let c : (isComplete s es D o && (endO es (o .number) && leb 1 (u .number))) ≡ (isComplete s es E v && (endO es (v .number) && leb 1 (w .number))) = rw (a .complete, a .number, n) refl in
+      let e = endInferred (o .element) at in
+      let l = left (moves .ends) at around outer o v u w ev fv e (endInferred (v .element) at) q (ap (λ n. endInferred n at) (a .element), refl) in
+      let n : u .element ≡ w .element = alike l .element in
+      let c : (isComplete s es D o && (endO es (o .element) && leb 1 (u .element))) ≡ (isComplete s es E v && (endO es (v .element) && leb 1 (w .element))) = rw (a .complete, a .element, n) refl in
       orElse-both (inward-both t at q)
-      (either (isComplete s es D o && (endO es (o .number) && leb 1 (u .number))) (isComplete s es E v && (endO es (v .number) && leb 1 (w .number))) c
-      (λ x. settleFrom-both t at around outer u w (ev ++ e ∷ []) (fv ++ endInferred (v .number) at ∷ []) l) (λ x. stop (omega arith)))
+      (either (isComplete s es D o && (endO es (o .element) && leb 1 (u .element))) (isComplete s es E v && (endO es (v .element) && leb 1 (w .element))) c
+      (λ x. settleFrom-both t at around outer u w (ev ++ e ∷ []) (fv ++ endInferred (v .element) at ∷ []) l) (λ x. stop (omega arith)))
 
   pub settle-both : (t : Token) (at : ℕ) {z y : State} → Q z y → Both (At at) (Taken t) (settle s es D t at z) (settle s es E t at y)
   unfolding settle
   settle-both t at {z} {y} q =
-      either (isOver s es D z) (isOver s es E y) (rw (alike q .complete, alike q .number) refl) (λ x. stop (omega arith))
+      either (isOver s es D z) (isOver s es E y) (rw (alike q .complete, alike q .element) refl) (λ x. stop (omega arith))
       (λ x. settleFrom-both t at (z .around) (y .around) (z .current) (y .current) (z .events) (y .events) q)
 
   -- What a start tag leaves: few enough are open, and the last event is no data.
@@ -438,7 +438,7 @@ keeps-ends {s} {es} {D} {E} keeps =
     }
 
 pub answers-itself : (s : List ℕ) (es : List Element) (D : Decisions) (o : Open) → Answers s es D D o o
-answers-itself s es D o = record { number = refl; fits = λ t. refl; complete = refl; required = refl }
+answers-itself s es D o = record { element = refl; fits = λ t. refl; complete = refl; required = refl }
 
 -- Where nothing is asked of the state.
 abbrev pub AnyState : State → Type 0

@@ -26,7 +26,7 @@ pub record Begun (es : List Element) (o : Open) : Type 0 where
   pub group : Group
   pub places : List Place
   pub tokens : ℕ
-  pub has : contentOf es (o .number) ≡ model group places tokens
+  pub has : contentOf es (o .element) ≡ model group places tokens
   pub begins : Begins group (o .taken)
 
 pub record AllBegun (es : List Element) (z : State) : Type 0 where
@@ -53,15 +53,15 @@ parent-begun es z g = parent-is (AllBegun es) z g (λ u around e. go u around (r
 module _ (s : List ℕ) (es : List Element) (D E : Decisions) (x : Means s es D) (y : Means s es E) where
   alike : (o : Open) → Begun es o → Answers s es D E o o
   alike o b =
-      let a = agree s es D E x y (o .number) (b .has) (o .taken) (b .begins) in
-      record { number = refl; fits = a .fits; complete = a .complete; required = a .required }
+      let a = agree s es D E x y (o .element) (b .has) (o .taken) (b .begins) in
+      record { element = refl; fits = a .fits; complete = a .complete; required = a .required }
 
   -- The places taken go on to begin a walk.
-  took-begun : (o : Open) (p : ℕ) → Begun es o → Chosen s es D o p → Begun es (record { number = o .number; taken = o .taken ++ p ∷ [] })
+  took-begun : (o : Open) (p : ℕ) → Begun es o → Chosen s es D o p → Begun es (record { element = o .element; taken = o .taken ++ p ∷ [] })
   took-begun o p b (fits t l) =
-      record { group = b .group; places = b .places; tokens = b .tokens; has = b .has; begins = x .walks (o .number) (b .has) (o .taken) (b .begins) .fits t .some l .next }
+      record { group = b .group; places = b .places; tokens = b .tokens; has = b .has; begins = x .walks (o .element) (b .has) (o .taken) (b .begins) .fits t .some l .next }
   took-begun o p b (required l) =
-      record { group = b .group; places = b .places; tokens = b .tokens; has = b .has; begins = x .walks (o .number) (b .has) (o .taken) (b .begins) .required .some l .next }
+      record { group = b .group; places = b .places; tokens = b .tokens; has = b .has; begins = x .walks (o .element) (b .has) (o .taken) (b .begins) .required .some l .next }
 
   pub begun-moves : Moves s es D E (Itself (AllBegun es))
   begun-moves =

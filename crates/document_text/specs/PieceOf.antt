@@ -8,11 +8,11 @@ use Rattle.rules.specs.Document as rules
 use Rattle.text.specs.Refusal.{refusalOf}
 use Rattle.tags.specs.Tags.{tagWith, tagIn}
 use Rattle.tags.specs.Given.{ReadAs}
-use Rattle.document_text.specs.declared.Token.{Token}
-use Rattle.document_text.specs.declared.Token.the-variants as token
+use Rattle.document_text.specs.declared.Piece as code
+use Rattle.document_text.specs.declared.Piece.the-variants as token
 
 -- Of a start tag: one that gives no attributes.
-abbrev pub pieceOf : Token → Reading Piece
+abbrev pub pieceOf : code.Piece → Reading Piece
 pieceOf (token.StartTag t) = got (startTag (tagIn t))
 pieceOf (token.EndTag t) = got (endTag (tagIn t))
 pieceOf (token.Skipped i) = got (skipped i)
@@ -21,7 +21,7 @@ pieceOf token.Data = got dataByte
 pieceOf (token.Refused f) = refusalOf f
 
 -- What the rules read in a text of so many bytes, where g has what is kept of the attributes of a start tag.
-abbrev pub MeetsPiece : (end : ℕ) → (g : List ℕ) → Token → Reading Piece → Type 0
+abbrev pub MeetsPiece : (end : ℕ) → (g : List ℕ) → code.Piece → Reading Piece → Type 0
 MeetsPiece end g (token.StartTag t) x = (ws : List Written) × (x ≡ got (startTag (tagWith ws t))) × ReadAs end g (t .given) ws
 MeetsPiece end g (token.EndTag t) x = x ≡ got (endTag (tagIn t))
 MeetsPiece end g (token.Skipped i) x = x ≡ got (skipped i)

@@ -18,8 +18,8 @@ use Rattle.tags.specs.declared.Tag as here
 use Rattle.tags.specs.declared.TagRead.{TagRead}
 use Rattle.tags.specs.declared.TagRead.the-variants as tagRead
 use Rattle.document_text.specs.PieceOf.{pieceOf, MeetsPiece, asStartTag, asEndTag, asSkipped}
-use Rattle.document_text.specs.declared.Token.{Token}
-use Rattle.document_text.specs.declared.Token.the-variants as token
+use Rattle.document_text.specs.declared.Piece as code
+use Rattle.document_text.specs.declared.Piece.the-variants as token
 
 -- `<!` at i, before the byte b.
 module _ (s : List ℕ) (i b : ℕ) (q : b ≡ byteAt s (i + 2)) where
@@ -148,7 +148,7 @@ byte-no-start s i =
     either-no-start (eqb b RS) (record { no = refl }) (either-no-start (eqb b TAB || (eqb b RE || eqb b SPACE)) (record { no = refl }) (record { no = refl }))
 
 -- A token that stands for what is no start tag: nothing is kept of attributes. It is what the rules read, x.
-pub meets-other : (end : ℕ) (g : List ℕ) (r : Token) {x y : Reading Piece} → pieceOf r ≡ y → NoStart y → y ≡ x → MeetsPiece end g r x
+pub meets-other : (end : ℕ) (g : List ℕ) (r : code.Piece) {x y : Reading Piece} → pieceOf r ≡ y → NoStart y → y ≡ x → MeetsPiece end g r x
 meets-other end g (token.StartTag t) e n q = absurd (true≢false (ap isStart e ∙ n .no))
 meets-other end g (token.EndTag t) e n q = sym (e ∙ q)
 meets-other end g (token.Skipped i) e n q = sym (e ∙ q)
@@ -157,9 +157,9 @@ meets-other end g token.Data e n q = sym (e ∙ q)
 meets-other end g (token.Refused f) e n q = sym (e ∙ q)
 
 -- A token by cases: what the rules read, where the code's answer is known.
-module _ (end : ℕ) (g : List ℕ) (r : Token) (x : Reading Piece) (m : MeetsPiece end g r x) where
-  known : {t : Token} → r ≡ t → MeetsPiece end g t x
-  known q = subst (λ (y : Token). MeetsPiece end g y x) q m
+module _ (end : ℕ) (g : List ℕ) (r : code.Piece) (x : Reading Piece) (m : MeetsPiece end g r x) where
+  known : {t : code.Piece} → r ≡ t → MeetsPiece end g t x
+  known q = subst (λ (y : code.Piece). MeetsPiece end g y x) q m
 
   pub token-start : {t : here.Tag} → r ≡ token.StartTag t → (ws : List Written) × (x ≡ got (startTag (tagWith ws t))) × ReadAs end g (t .given) ws
   token-start q = known q

@@ -1,4 +1,4 @@
-// The tokens of a document, read from its bytes.
+// The pieces of a document, read from its bytes.
 use layout::GIVEN;
 use tags::Tag;
 use tags::TagRead;
@@ -21,7 +21,7 @@ ghost use Rattle.tags.specs.Given.{MeetsTag};
 ghost use Rattle.document_text.specs.PieceOf.{pieceOf, MeetsPiece, asStartTag, asEndTag, asSkipped};
 
 // What stands at a position of the document.
-pub enum Token {
+pub enum Piece {
     StartTag(Tag),
     EndTag(Tag),
     // It is a comment declaration, `<!>` or byte 10, up to here.
@@ -33,32 +33,32 @@ pub enum Token {
 }
 
 // A start tag that was read, as a token.
-fn start_tag(r: TagRead) -> Token
+fn start_tag(r: TagRead) -> Piece
     ensures { λ t. ⌜ ((end : ℕ) (g : List ℕ) (x : Reading rules.Tag) → MeetsTag end g r x → MeetsPiece end g t (asStartTag x)) ⌝ }
 {
     match r {
-        TagRead::Read(t) => Token::StartTag(t),
-        TagRead::Refused(f) => Token::Refused(f),
+        TagRead::Read(t) => Piece::StartTag(t),
+        TagRead::Refused(f) => Piece::Refused(f),
     }
 }
 
 // An end tag that was read, as a token.
-fn end_tag(r: TagRead) -> Token
+fn end_tag(r: TagRead) -> Piece
     ensures { λ t. ⌜ pieceOf t ≡ asEndTag (tagOf r) ⌝ }
 {
     match r {
-        TagRead::Read(t) => Token::EndTag(t),
-        TagRead::Refused(f) => Token::Refused(f),
+        TagRead::Read(t) => Piece::EndTag(t),
+        TagRead::Refused(f) => Piece::Refused(f),
     }
 }
 
 // A comment declaration in a document. What is refused in it is number 4: number 5 names no `%` there.
-fn comment(r: Reached) -> Token
+fn comment(r: Reached) -> Piece
     ensures { λ t. ⌜ pieceOf t ≡ asSkipped (malformed (reached r)) ⌝ }
 {
     match r {
-        Reached::At(i) => Token::Skipped(i),
-        Reached::Refused(f) => Token::Refused(Fault {
+        Reached::At(i) => Piece::Skipped(i),
+        Reached::Refused(f) => Piece::Refused(Fault {
             number: 4,
             at: f.at,
         }),
@@ -66,21 +66,21 @@ fn comment(r: Reached) -> Token
 }
 
 // What `<!` at i begins.
-fn declaration_at(s: &[u8], i: usize) -> Token
+fn declaration_at(s: &[u8], i: usize) -> Piece
     requires { ⌜ i < length (now s) ⌝ }
     ensures { λ r. ⌜ pieceOf r ≡ declarationPiece (now (s .entry)) i ⌝ }
 {
     let b = text::byte(s, i + 2);
     if b == b'>' {
-        return Token::Skipped(i + 3);
+        return Piece::Skipped(i + 3);
     }
     if delimiters::dashes_at(s, i) {
         return comment(gaps::comment_end(s, i + 2));
     }
     if delimiters::is_left_out(b) {
-        return Token::Refused(Fault { number: 5, at: i });
+        return Piece::Refused(Fault { number: 5, at: i });
     }
-    Token::Data
+    Piece::Data
 }
 
 // What `<` at i begins.
@@ -90,7 +90,7 @@ fn markup_at(
     s: &[u8],
     i: usize,
     given: &mut [u16; GIVEN],
-) -> Token
+) -> Piece
     requires { ⌜ Classes (now classes) × (i < length (now s)) × (length (now s) ≤ documentLimit) ⌝ }
     ensures { λ r. ⌜ MeetsPiece (length (now (s .entry))) (now (given .exit)) r (markupPiece long (now (s .entry)) i) ⌝ }
 {
@@ -105,9 +105,9 @@ fn markup_at(
         return declaration_at(s, i);
     }
     if b == b'?' {
-        return Token::Refused(Fault { number: 5, at: i });
+        return Piece::Refused(Fault { number: 5, at: i });
     }
-    Token::Data
+    Piece::Data
 }
 
 // Whether the byte is a tab, a record end or a space.
@@ -124,28 +124,28 @@ fn is_blank(b: u8) -> bool
 }
 
 // What the byte at i is by itself.
-fn byte_at(s: &[u8], i: usize) -> Token
+fn byte_at(s: &[u8], i: usize) -> Piece
     requires { ⌜ i < length (now s) ⌝ }
     ensures { λ r. ⌜ pieceOf r ≡ bytePiece (now (s .entry)) i ⌝ }
 {
     let b = text::byte(s, i);
     if b == b'\n' {
-        return Token::Skipped(i + 1);
+        return Piece::Skipped(i + 1);
     }
     if is_blank(b) {
-        return Token::Blank;
+        return Piece::Blank;
     }
-    Token::Data
+    Piece::Data
 }
 
 // What stands at i, where the document does not end. Where it is a start tag, `given` has the attributes that it gives (crate tag_attributes); else what that holds is not decided.
-pub fn token_at(
+pub fn piece_at(
     long: usize,
     classes: &[u8; 256],
     s: &[u8],
     i: usize,
     given: &mut [u16; GIVEN],
-) -> Token
+) -> Piece
     requires { ⌜ Classes (now classes) × (i < length (now s)) × (length (now s) ≤ documentLimit) ⌝ }
     ensures { λ r. ⌜ MeetsPiece (length (now (s .entry))) (now (given .exit)) r (piece long (now (s .entry)) i) ⌝ }
 {
@@ -153,10 +153,10 @@ pub fn token_at(
         return markup_at(long, classes, s, i, given);
     }
     if delimiters::is_reference(s, i) {
-        return Token::Refused(Fault { number: 5, at: i });
+        return Piece::Refused(Fault { number: 5, at: i });
     }
     if delimiters::is_section_end(s, i) {
-        return Token::Refused(Fault { number: 17, at: i });
+        return Piece::Refused(Fault { number: 17, at: i });
     }
     byte_at(s, i)
 }

@@ -15,7 +15,7 @@ use Rattle.rules_laws.specs.BeforeStarts.{plain-none, plain-then, plain-end-inf
 use Rattle.document_laws.specs.Decide.{decided}
 use Rattle.document_laws.specs.Moves.{state}
 use Rattle.type_tables.specs.Tables.{nameNumber, Declares, Tables}
-use Rattle.open_elements.specs.declared.Open.{Open}
+use Rattle.open_elements.specs.declared.OpenElements.{OpenElements}
 use Rattle.open_elements.specs.Stands.{ended, Ranged, Stands}
 use Rattle.open_elements.specs.Methods.{stands-required, stands-around, ranged-ended}
 use Rattle.event_buffer.specs.Buffers.{Puts}
@@ -40,7 +40,7 @@ module _ (s : List ℕ) (es : List Element) (D : Decisions) (t : Token) (at : �
   settle-stuck (u ∷ us) o ev e h = rw (e, settleFrom, h)
 
   settle-end : (u : rules.Open) (us ws : List rules.Open) → ws ≡ u ∷ us → (o : rules.Open) (ev : List Event) → inward s es D t at (state o ws ev) ≡ stuck → mayEnd s es D o ws ≡ true
-      → settleFrom s es D t at ws o ev ≡ settleFrom s es D t at us u (ev ++ endInferred (o .number) at ∷ [])
+      → settleFrom s es D t at ws o ev ≡ settleFrom s es D t at us u (ev ++ endInferred (o .element) at ∷ [])
   unfolding settleFrom
   settle-end u us [] q o ev e h = absurd (let z : _≡_ {A = ℕ} 0 1 = cc in omega arith)
   settle-end u us (w ∷ ws) q o ev e h =
@@ -60,26 +60,26 @@ module _ (s : List ℕ) (es : List Element) (D : Decisions) (t : Token) (at : �
     found-refused e h = settle-stuck (z .around) (z .current) (z .events) (found-inward ∙ ap (λ x. inwardAs s es D t at x z) e) h
 
     found-ends : w ≡ Stuck → mayEnd s es D (z .current) (z .around) ≡ true → (u : rules.Open) (us : List rules.Open) → z .around ≡ u ∷ us
-        → settleFrom s es D t at us u (z .events ++ endInferred (z .current .number) at ∷ []) ≡ settleFrom s es D t at (z .around) (z .current) (z .events)
+        → settleFrom s es D t at us u (z .events ++ endInferred (z .current .element) at ∷ []) ≡ settleFrom s es D t at (z .around) (z .current) (z .events)
     found-ends e h u us are = sym (settle-end u us (z .around) are (z .current) (z .events) (found-inward ∙ ap (λ x. inwardAs s es D t at x z) e) h)
 
 -- What is found of the current element is found of the rules' one.
-pub found-at : {rows places facts M begun : List ℕ} {x : ℕ} {o : Open} {w : Way} → Finds rows places facts M begun x o w → {s : List ℕ} {es : List Element} → Tables s es rows places facts M
+pub found-at : {rows places facts M begun : List ℕ} {x : ℕ} {o : OpenElements} {w : Way} → Finds rows places facts M begun x o w → {s : List ℕ} {es : List Element} → Tables s es rows places facts M
     → {z : State} → Stands es M begun o z → (t : Token) → nameNumber t ≡ x → Declares es t → w ≡ wayOf (fitting s es (decided s es) (z .current) t) (chained s es (decided s es) t (z .current))
 found-at finds {s} {es} tables {z} stands t i d = finds s es tables (z .current) (stands .current .entered) (stands-required stands s) t i d
 
 -- An end is inferred.
-comes-end : {s : List ℕ} {es : List Element} {M begun : List ℕ} {t : Token} {at : ℕ} {o : Open} {events : List Event} {z₀ : State} → (h : Comes s es M begun t at o events z₀)
+comes-end : {s : List ℕ} {es : List Element} {M begun : List ℕ} {t : Token} {at : ℕ} {o : OpenElements} {events : List Event} {z₀ : State} → (h : Comes s es M begun t at o events z₀)
     → (w : Way) → w ≡ wayOf (fitting s es (decided s es) (h .there .current) t) (chained s es (decided s es) t (h .there .current)) → w ≡ Stuck → mayEnd s es (decided s es) (h .there .current) (h .there .around) ≡ true → 1 ≤ o .count
     → Comes s es M begun t at (ended o) (events ++ endInferred (o .element .0) at ∷ []) z₀
 comes-end {s} {es} {M} {begun} {t} {at} {o} {events} {z₀} h w finds e ends some =
     let z = h .there in
     let a = stands-around (h .stands) some in
     let event = endInferred (o .element .0) at in
-    let noted : z .events ++ endInferred (z .current .number) at ∷ [] ≡ z₀ .events ++ (events ++ event ∷ []) =
+    let noted : z .events ++ endInferred (z .current .element) at ∷ [] ≡ z₀ .events ++ (events ++ event ∷ []) =
     ap (λ (k : ℕ). z .events ++ endInferred k at ∷ []) (h .stands .current .entered .number) ∙ ap (λ (ev : List Event). ev ++ event ∷ []) (h .noted) ∙ append-assoc (z₀ .events) events (event ∷ []) in
     record {
-      there = state (a .parent) (a .others) (z .events ++ endInferred (z .current .number) at ∷ []);
+      there = state (a .parent) (a .others) (z .events ++ endInferred (z .current .element) at ∷ []);
       stands = a .stands _;
       ends = more (h .ends) (a .are) ends;
       noted = noted;
@@ -89,7 +89,7 @@ comes-end {s} {es} {M} {begun} {t} {at} {o} {events} {z₀} h w finds e ends som
 -- The loop
 
 module _ (rows places facts M begun : List ℕ) (x at n : ℕ) where
-  pub turns-start : (o : Open) (numbers bytes : List ℕ) → Ranged o → Turns rows places facts M begun x at n o numbers bytes o n numbers bytes
+  pub turns-start : (o : OpenElements) (numbers bytes : List ℕ) → Ranged o → Turns rows places facts M begun x at n o numbers bytes o n numbers bytes
   turns-start o numbers bytes h =
       record {
         events = [];
@@ -103,12 +103,12 @@ module _ (rows places facts M begun : List ℕ) (x at n : ℕ) where
       }
 
   -- A turn: the end of the current element is inferred, and noted.
-  pub turns-end : {o₀ : Open} {numbers₀ bytes₀ : List ℕ} {o : Open} {m : ℕ} {numbers bytes : List ℕ} → Turns rows places facts M begun x at n o₀ numbers₀ bytes₀ o m numbers bytes
+  pub turns-end : {o₀ : OpenElements} {numbers₀ bytes₀ : List ℕ} {o : OpenElements} {m : ℕ} {numbers bytes : List ℕ} → Turns rows places facts M begun x at n o₀ numbers₀ bytes₀ o m numbers bytes
       → (w : Way) → Finds rows places facts M begun x o w → w ≡ Stuck → (b : Bool) → MayEnd facts o b → b ≡ true → 1 ≤ o .count
-      → {numbers′ bytes′ : List ℕ} → Puts numbers bytes m (endInferred (o .element .0) at ∷ []) numbers′ bytes′ → {r : Open} → r ≡ ended o → {q : ℕ} → q ≡ m + 1
+      → {numbers′ bytes′ : List ℕ} → Puts numbers bytes m (endInferred (o .element .0) at ∷ []) numbers′ bytes′ → {r : OpenElements} → r ≡ ended o → {q : ℕ} → q ≡ m + 1
       → Turns rows places facts M begun x at n o₀ numbers₀ bytes₀ r q numbers′ bytes′
   turns-end {o₀} {numbers₀} {bytes₀} {o} {m} h w finds e b ends may some {numbers′} {bytes′} puts i {q} counted =
-      subst (λ (u : Open). Turns rows places facts M begun x at n o₀ numbers₀ bytes₀ u q numbers′ bytes′) (sym i)
+      subst (λ (u : OpenElements). Turns rows places facts M begun x at n o₀ numbers₀ bytes₀ u q numbers′ bytes′) (sym i)
       record {
         events = h .events ++ endInferred (o .element .0) at ∷ [];
         are = one-end (o .element .0) (h .are);

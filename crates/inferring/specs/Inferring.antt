@@ -14,7 +14,7 @@ use Rattle.rules.specs.Bytes.{GRPGTCNT, elementLimit}
 use Rattle.document_laws.specs.Decide.{decided}
 use Rattle.document_laws.specs.Moves.{state, fresh}
 use Rattle.type_tables.specs.Tables.{nameNumber, Declares, Tables, Entered}
-use Rattle.open_elements.specs.declared.Open.{Open}
+use Rattle.open_elements.specs.declared.OpenElements.{OpenElements}
 use Rattle.open_elements.specs.Stands.{Ranged, Stands, Starting}
 use Rattle.event_buffer.specs.Buffers.{Puts}
 use Rattle.ways.specs.declared.Way.{Way}
@@ -28,7 +28,7 @@ use Rattle.inferring.specs.declared.Stop.{Stop}
 pub data EndsTo (s : List ℕ) (es : List Element) (at : ℕ) (z₀ : State) : State → Type 0 where
   none : EndsTo s es at z₀ z₀
   more : {z : State} {u : rules.Open} {us : List rules.Open} → EndsTo s es at z₀ z → z .around ≡ u ∷ us → mayEnd s es (decided s es) (z .current) (z .around) ≡ true
-      → EndsTo s es at z₀ (state u us (z .events ++ endInferred (z .current .number) at ∷ []))
+      → EndsTo s es at z₀ (state u us (z .events ++ endInferred (z .current .element) at ∷ []))
 
 -- The events of ends that are inferred at `at`, one after another.
 pub data EndsAt (at : ℕ) : List Event → Type 0 where
@@ -36,7 +36,7 @@ pub data EndsAt (at : ℕ) : List Event → Type 0 where
   one-end : (k : ℕ) {ev : List Event} → EndsAt at ev → EndsAt at (ev ++ endInferred k at ∷ [])
 
 -- The open elements have come to stand for a state from which the same is settled as from z₀: ends alone were inferred between, with these events.
-pub record Comes (s : List ℕ) (es : List Element) (M begun : List ℕ) (t : Token) (at : ℕ) (o : Open) (events : List Event) (z₀ : State) : Type 0 where
+pub record Comes (s : List ℕ) (es : List Element) (M begun : List ℕ) (t : Token) (at : ℕ) (o : OpenElements) (events : List Event) (z₀ : State) : Type 0 where
   pub there : State
   pub stands : Stands es M begun o there
   pub ends : EndsTo s es at z₀ there
@@ -44,7 +44,7 @@ pub record Comes (s : List ℕ) (es : List Element) (M begun : List ℕ) (t : To
   pub same : settleFrom s es (decided s es) t at (there .around) (there .current) (there .events) ≡ settleFrom s es (decided s es) t at (z₀ .around) (z₀ .current) (z₀ .events)
 
 -- So it is for every type whose tables these are, and the token whose name is x. An end was inferred for each event.
-pub record Turns (rows places facts M begun : List ℕ) (x at n : ℕ) (o₀ : Open) (numbers₀ bytes₀ : List ℕ) (o : Open) (m : ℕ) (numbers bytes : List ℕ) : Type 0 where
+pub record Turns (rows places facts M begun : List ℕ) (x at n : ℕ) (o₀ : OpenElements) (numbers₀ bytes₀ : List ℕ) (o : OpenElements) (m : ℕ) (numbers bytes : List ℕ) : Type 0 where
   pub events : List Event
   pub are : EndsAt at events
   pub puts : Puts numbers₀ bytes₀ n events numbers bytes
@@ -55,13 +55,13 @@ pub record Turns (rows places facts M begun : List ℕ) (x at n : ℕ) (o₀ : O
   pub comes : (s : List ℕ) (es : List Element) → Tables s es rows places facts M → (z : State) → Stands es M begun o₀ z → (t : Token) → nameNumber t ≡ x → Declares es t → Comes s es M begun t at o events z
 
 -- What is found of the current element.
-abbrev pub Finds : (rows places facts M begun : List ℕ) (x : ℕ) → Open → Way → Type 0
+abbrev pub Finds : (rows places facts M begun : List ℕ) (x : ℕ) → OpenElements → Way → Type 0
 Finds rows places facts M begun x o w =
     (s : List ℕ) (es : List Element) → Tables s es rows places facts M → (v : rules.Open) → Entered es M begun (o .count) (o .element .0) (o .place .0) v → o .required .0 ≡ requiredPlace s es (decided s es) v
     → (t : Token) → nameNumber t ≡ x → Declares es t → w ≡ wayOf (fitting s es (decided s es) v t) (chained s es (decided s es) t v)
 
 -- No more ends are inferred.
-pub record Stops (rows places facts M begun : List ℕ) (x at n : ℕ) (o₀ : Open) (numbers₀ bytes₀ : List ℕ) (r : Stop) (numbers bytes : List ℕ) : Type 0 where
+pub record Stops (rows places facts M begun : List ℕ) (x at n : ℕ) (o₀ : OpenElements) (numbers₀ bytes₀ : List ℕ) (r : Stop) (numbers bytes : List ℕ) : Type 0 where
   pub turns : Turns rows places facts M begun x at n o₀ numbers₀ bytes₀ (r .open) (r .events) numbers bytes
   pub fits : fitOf (r .found) ≤ GRPGTCNT
   pub starts : startsOf (r .found) ≤ elementLimit
@@ -94,7 +94,7 @@ module _ (s : List ℕ) (es : List Element) (D : Decisions) where
   Infers t (suc n) o = (1 ≤ inferable s es D o) × Infers t n (fresh (inferable s es D o))
 
 -- The open elements have come to stand for a state from which what is left to infer comes to the same as so many starts from z₀; with these events.
-pub record InfersOn (s : List ℕ) (es : List Element) (M begun : List ℕ) (t : Token) (at left : ℕ) (o : Open) (events : List Event) (starts : ℕ) (z₀ : State) : Type 0 where
+pub record InfersOn (s : List ℕ) (es : List Element) (M begun : List ℕ) (t : Token) (at left : ℕ) (o : OpenElements) (events : List Event) (starts : ℕ) (z₀ : State) : Type 0 where
   pub there : State
   pub stands : Stands es M begun o there
   pub infers : Infers s es (decided s es) t left (there .current)
@@ -102,13 +102,13 @@ pub record InfersOn (s : List ℕ) (es : List Element) (M begun : List ℕ) (t :
   pub same : inferMany s es (decided s es) at left there ≡ inferMany s es (decided s es) at starts z₀
 
 -- By the tables of a type k is the element whose start is to be inferred next, wherever the open elements stand for a state of the rules.
-abbrev pub Chooses : (places facts : List ℕ) → Open → (k : ℕ) → Type 0
+abbrev pub Chooses : (places facts : List ℕ) → OpenElements → (k : ℕ) → Type 0
 Chooses places facts o k =
     (s : List ℕ) (es : List Element) (rows M begun : List ℕ) → Tables s es rows places facts M → (z : State) → Stands es M begun o z → k ≡ inferable s es (decided s es) (z .current)
 
 -- The required place is taken, the element k opened there, and its start noted; by the tables of a type it is the one whose start is to be
 -- inferred.
-pub record InfersStart (rows places facts M before : List ℕ) (at n : ℕ) (o : Open) (numbers bytes : List ℕ) (r : Open) (after numbers′ bytes′ : List ℕ) : Type 0 where
+pub record InfersStart (rows places facts M before : List ℕ) (at n : ℕ) (o : OpenElements) (numbers bytes : List ℕ) (r : OpenElements) (after numbers′ bytes′ : List ℕ) : Type 0 where
   pub k : ℕ
   pub few : k ≤ elementLimit
   pub starting : Starting rows M before k o r after

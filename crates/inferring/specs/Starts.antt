@@ -18,7 +18,7 @@ use Rattle.document_laws.specs.Decide.{decided}
 use Rattle.document_laws.specs.Chain.{Leads, inferable-may}
 use Rattle.document_laws.specs.Moves.{fresh, placeTaken-took}
 use Rattle.type_tables.specs.Tables.{Tables, CanTake}
-use Rattle.open_elements.specs.declared.Open.{Open}
+use Rattle.open_elements.specs.declared.OpenElements.{OpenElements}
 use Rattle.open_elements.specs.Stands.{Ranged, Stands}
 use Rattle.open_elements.specs.Taken.{can-require}
 use Rattle.open_elements.specs.Methods.{stands-required, stands-noted, stands-opening, ranged-taking, ranged-opening}
@@ -60,7 +60,7 @@ module _ (s : List ℕ) (es : List Element) (D : Decisions) where
 
 -- One start
 
-module _ {rows places facts M before : List ℕ} {at n : ℕ} {o : Open} {numbers bytes : List ℕ} {r : Open} {after numbers′ bytes′ : List ℕ}
+module _ {rows places facts M before : List ℕ} {at n : ℕ} {o : OpenElements} {numbers bytes : List ℕ} {r : OpenElements} {after numbers′ bytes′ : List ℕ}
     (i : InfersStart rows places facts M before at n o numbers bytes r after numbers′ bytes′) (less : o .count < TAGLVL) where
   -- Its event has the place that it took.
   abbrev started : Event
@@ -72,7 +72,7 @@ module _ {rows places facts M before : List ℕ} {at n : ℕ} {o : Open} {number
       rw (i .starting .opens) (ranged-opening rows (i .k) (ranged-taking t h (h .required)) (omega (arith, t .count)) (i .few))
 
   start-deep : r .count ≡ o .count + 1
-  start-deep = ap (λ (u : Open). u .count) (i .starting .opens) ∙ omega (arith, i .starting .taking .count)
+  start-deep = ap (λ (u : OpenElements). u .count) (i .starting .opens) ∙ omega (arith, i .starting .taking .count)
 
   module _ {s : List ℕ} {es : List Element} (tables : Tables s es rows places facts M) {z : State} (stands : Stands es M before o z) (some : 1 ≤ inferable s es (decided s es) (z .current)) where
     abbrev D : Decisions
@@ -101,7 +101,7 @@ module _ {rows places facts M before : List ℕ} {at n : ℕ} {o : Open} {number
 
 -- The first k of the starts are inferred, and what is left to infer comes to the same as all of them from the first state. What is put are their events, with the
 -- attribute events before each: at most ATTCNT + 1 for a start.
-pub record Along (rows places facts M lists : List ℕ) (at m₀ starts k : ℕ) (o₀ : Open) (begun₀ numbers₀ bytes₀ : List ℕ) (m : ℕ) (o : Open) (begun numbers bytes : List ℕ) : Type 0 where
+pub record Along (rows places facts M lists : List ℕ) (at m₀ starts k : ℕ) (o₀ : OpenElements) (begun₀ numbers₀ bytes₀ : List ℕ) (m : ℕ) (o : OpenElements) (begun numbers bytes : List ℕ) : Type 0 where
   pub most : k ≤ starts
   pub events : List Event
   pub are : StartsAt at events
@@ -119,7 +119,7 @@ pub record Along (rows places facts M lists : List ℕ) (at m₀ starts k : ℕ)
       → (long : ℕ) (d : List ℕ) → Lists long s es lists → written ≡ withAttributes long s es d events
 
 module _ (rows places facts M lists : List ℕ) (at m₀ starts : ℕ) where
-  pub along-start : (o : Open) (begun numbers bytes : List ℕ) → Ranged o → Along rows places facts M lists at m₀ starts 0 o begun numbers bytes m₀ o begun numbers bytes
+  pub along-start : (o : OpenElements) (begun numbers bytes : List ℕ) → Ranged o → Along rows places facts M lists at m₀ starts 0 o begun numbers bytes m₀ o begun numbers bytes
   along-start o begun numbers bytes h =
       let left : starts - 0 ≡ starts = omega arith in
       record {
@@ -138,10 +138,10 @@ module _ (rows places facts M lists : List ℕ) (at m₀ starts : ℕ) where
         adds = λ s es tables z stands t infers long d lists. sym (plain-none .plain long s es d);
       }
 
-  module _ {k : ℕ} {o₀ : Open} {begun₀ numbers₀ bytes₀ : List ℕ} {m : ℕ} {o : Open} {begun numbers bytes : List ℕ} (h : Along rows places facts M lists at m₀ starts k o₀ begun₀ numbers₀ bytes₀ m o begun numbers bytes) where
+  module _ {k : ℕ} {o₀ : OpenElements} {begun₀ numbers₀ bytes₀ : List ℕ} {m : ℕ} {o : OpenElements} {begun numbers bytes : List ℕ} (h : Along rows places facts M lists at m₀ starts k o₀ begun₀ numbers₀ bytes₀ m o begun numbers bytes) where
     -- A turn of the loop: one start more is inferred, behind the events of the attributes of its element.
     module _ (l : k < starts) (less : o .count < TAGLVL) {e : ℕ} (chooses : Chooses places facts o e) {m₁ : ℕ} {numbers₁ bytes₁ : List ℕ} (before : PutsDefaults lists e m numbers bytes m₁ numbers₁ bytes₁)
-        {r : Open} {begun′ numbers′ bytes′ : List ℕ} (i : InfersStart rows places facts M begun at m₁ o numbers₁ bytes₁ r begun′ numbers′ bytes′) where
+        {r : OpenElements} {begun′ numbers′ bytes′ : List ℕ} (i : InfersStart rows places facts M begun at m₁ o numbers₁ bytes₁ r begun′ numbers′ bytes′) where
       left : starts - k ≡ suc (starts - (k + 1))
       left = omega arith
 

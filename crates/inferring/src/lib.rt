@@ -10,7 +10,7 @@ use layout::FACTS;
 use layout::PLACES;
 use layout::Place;
 use layout::ROWS;
-use open_elements::Open;
+use open_elements::OpenElements;
 use ways::Way;
 ghost use Prim.Native.Nat.{_+_, _≤_, _<_};
 ghost use Rattle.rules.specs.Bytes.{TAGLVL, elementLimit};
@@ -21,7 +21,7 @@ ghost use Rattle.inferring.specs.Inferring.{Stops, Chooses, InfersStart}
 // Where no more ends are inferred: the state come to, what its current element has to say to the token, and how many events there
 // are.
 pub struct Stop {
-    pub open: Open,
+    pub open: OpenElements,
     pub found: Way,
     pub events: usize,
 }
@@ -33,7 +33,7 @@ pub fn ends(
     facts: &[u8; FACTS],
     members: &[u8],
     begun: &[u32; BEGUN],
-    state: Open,
+    state: OpenElements,
     x: ElementNo,
     at: usize,
     n: usize,
@@ -69,7 +69,7 @@ pub fn ends(
 }
 
 // The element whose start is inferred next: its attribute events come before it.
-pub fn next_start(places: &[u8; PLACES], facts: &[u8; FACTS], state: Open) -> ElementNo
+pub fn next_start(places: &[u8; PLACES], facts: &[u8; FACTS], state: OpenElements) -> ElementNo
     requires { ⌜ Ranged state ⌝ }
     ensures { λ r. ⌜ Chooses (now (places .entry)) (now (facts .entry)) state (r .0) × (r .0 ≤ elementLimit) ⌝ }
 {
@@ -85,12 +85,12 @@ pub fn infer_start(
     facts: &[u8; FACTS],
     members: &[u8],
     begun: &mut [u32; BEGUN],
-    state: Open,
+    state: OpenElements,
     at: usize,
     n: usize,
     numbers: &mut [u32],
     bytes: &mut [u8],
-) -> Open
+) -> OpenElements
     requires { ⌜ Ranged state × (state .count < TAGLVL) × (at < 4294967296) × (n < 4294967296) ⌝ }
     ensures { λ r. ⌜ InfersStart (now (rows .entry)) (now (places .entry)) (now (facts .entry)) (now (members .entry)) (now (begun .entry)) at n state (now (numbers .entry)) (now (bytes .entry)) r (now (begun .exit)) (now (numbers .exit)) (now (bytes .exit)) ⌝ }
 {

@@ -21,11 +21,11 @@ module _ (s : List ℕ) (es : List Element) (D : Decisions) (at : ℕ) (o : Open
   unfolding endLeftOut
   left-incomplete h = rw (h, endLeftOut)
 
-  pub left-required : isComplete s es D o ≡ true → endO es (o .number) ≡ false → endLeftOut s es D at o ≡ refused 14 at
+  pub left-required : isComplete s es D o ≡ true → endO es (o .element) ≡ false → endLeftOut s es D at o ≡ refused 14 at
   unfolding endLeftOut
   left-required h n = rw (h, n, endLeftOut)
 
-  pub left-out : isComplete s es D o ≡ true → endO es (o .number) ≡ true → endLeftOut s es D at o ≡ got (endInferred (o .number) at)
+  pub left-out : isComplete s es D o ≡ true → endO es (o .element) ≡ true → endLeftOut s es D at o ≡ got (endInferred (o .element) at)
   unfolding endLeftOut
   left-out h n = rw (h, n, endLeftOut)
 
@@ -40,19 +40,19 @@ module _ (s : List ℕ) (es : List Element) (D : Decisions) (x at : ℕ) where
   abbrev pub inferredFrom : State → Reading State
   inferredFrom z = inferEnds s es D x at (z .around) (z .current) (z .events)
 
-  pub ends-here : (os : List Open) (o : Open) (ev : List Event) → o .number ≡ x → inferEnds s es D x at os o ev ≡ got (record { current = o; around = os; events = ev })
+  pub ends-here : (os : List Open) (o : Open) (ev : List Event) → o .element ≡ x → inferEnds s es D x at os o ev ≡ got (record { current = o; around = os; events = ev })
   unfolding inferEnds
   ends-here [] o ev e = refl
-  ends-here (u ∷ os) o ev e = rw (eq-eqb (o .number) x e, inferEnds)
+  ends-here (u ∷ os) o ev e = rw (eq-eqb (o .element) x e, inferEnds)
 
   pub ends-none : (o : Open) (ev : List Event) → inferEnds s es D x at [] o ev ≡ got (record { current = o; around = []; events = ev })
   unfolding inferEnds
   ends-none o ev = refl
 
-  pub ends-past : (u : Open) (os : List Open) (o : Open) (ev : List Event) → (o .number ≡ x → ⊥)
+  pub ends-past : (u : Open) (os : List Open) (o : Open) (ev : List Event) → (o .element ≡ x → ⊥)
       → inferEnds s es D x at (u ∷ os) o ev ≡ andThen (endLeftOut s es D at o) λ e. inferEnds s es D x at os u (ev ++ e ∷ [])
   unfolding inferEnds
-  ends-past u os o ev n = rw (ne-eqb (o .number) x n, inferEnds)
+  ends-past u os o ev n = rw (ne-eqb (o .element) x n, inferEnds)
 
   module _ (after : ℕ) where
     abbrev pub closeOn : State → Reading State
@@ -62,27 +62,27 @@ module _ (s : List ℕ) (es : List Element) (D : Decisions) (x at : ℕ) where
     unfolding closeFrom
     close-none o ev = refl
 
-    close-past : (u : Open) (os : List Open) (o : Open) (ev : List Event) → (o .number ≡ x → ⊥)
+    close-past : (u : Open) (os : List Open) (o : Open) (ev : List Event) → (o .element ≡ x → ⊥)
         → closeFrom s es D x at after (u ∷ os) o ev ≡ andThen (endLeftOut s es D at o) λ e. closeFrom s es D x at after os u (ev ++ e ∷ [])
     unfolding closeFrom
-    close-past u os o ev n = rw (ne-eqb (o .number) x n, closeFrom)
+    close-past u os o ev n = rw (ne-eqb (o .element) x n, closeFrom)
 
     -- An end tag goes on where no more ends are inferred.
     pub close-ends : (os : List Open) (o : Open) (ev : List Event) → closeFrom s es D x at after os o ev ≡ andThen (inferEnds s es D x at os o ev) closeOn
     close-ends [] o ev = rw (ends-none o ev)
-    close-ends (u ∷ os) o ev = by-test (eqb (o .number) x) refl (λ e. close-ends os u (ev ++ e ∷ []))
+    close-ends (u ∷ os) o ev = by-test (eqb (o .element) x) refl (λ e. close-ends os u (ev ++ e ∷ []))
       where
-        by-test : (b : Bool) → eqb (o .number) x ≡ b → ((e : Event) → closeFrom s es D x at after os u (ev ++ e ∷ []) ≡ andThen (inferEnds s es D x at os u (ev ++ e ∷ [])) closeOn)
+        by-test : (b : Bool) → eqb (o .element) x ≡ b → ((e : Event) → closeFrom s es D x at after os u (ev ++ e ∷ []) ≡ andThen (inferEnds s es D x at os u (ev ++ e ∷ [])) closeOn)
             → closeFrom s es D x at after (u ∷ os) o ev ≡ andThen (inferEnds s es D x at (u ∷ os) o ev) closeOn
-        by-test true t ih = rw (ends-here (u ∷ os) o ev (eqb-true (o .number) x t))
+        by-test true t ih = rw (ends-here (u ∷ os) o ev (eqb-true (o .element) x t))
         by-test false t ih =
-            let n : o .number ≡ x → ⊥ = eqb-false (o .number) x t in
+            let n : o .element ≡ x → ⊥ = eqb-false (o .element) x t in
             close-past u os o ev n ∙ then-then (endLeftOut s es D at o) _ _ closeOn ih ∙ sym (ap (λ r. andThen r closeOn) (ends-past u os o ev n))
 
 -- Each of these elements but the outermost has a number: that is the document itself.
 abbrev pub Numbered : Open → List Open → Type 0
 Numbered o [] = Unit {0}
-Numbered o (u ∷ os) = (1 ≤ o .number) × Numbered u os
+Numbered o (u ∷ os) = (1 ≤ o .element) × Numbered u os
 
 module _ (s : List ℕ) (es : List Element) (D : Decisions) (at : ℕ) where
   abbrev pub endOn : State → Reading (List Event)
@@ -97,7 +97,7 @@ module _ (s : List ℕ) (es : List Element) (D : Decisions) (at : ℕ) where
   pub end-ends : (os : List Open) (o : Open) (ev : List Event) → Numbered o os → endFrom s es D at os o ev ≡ andThen (inferEnds s es D 0 at os o ev) endOn
   end-ends [] o ev h = rw (ends-none s es D 0 at o ev)
   end-ends (u ∷ os) o ev h =
-      let n : o .number ≡ 0 → ⊥ = (λ z. omega (arith, h .0)) in
+      let n : o .element ≡ 0 → ⊥ = (λ z. omega (arith, h .0)) in
       end-past u os o ev
       ∙ then-then (endLeftOut s es D at o) _ _ endOn (λ e. end-ends os u (ev ++ e ∷ []) (h .1))
       ∙ sym (ap (λ r. andThen r endOn) (ends-past s es D 0 at u os o ev n))
@@ -113,15 +113,15 @@ module _ (s : List ℕ) (es : List Element) (D : Decisions) (x at after : ℕ) w
   unfolding endElement
   element-shut z h = rw (h, endElement)
 
-  pub close-incomplete : (u : Open) (os : List Open) (o : Open) (ev : List Event) → o .number ≡ x → isComplete s es D o ≡ false
+  pub close-incomplete : (u : Open) (os : List Open) (o : Open) (ev : List Event) → o .element ≡ x → isComplete s es D o ≡ false
       → closeFrom s es D x at after (u ∷ os) o ev ≡ refused 13 at
   unfolding closeFrom
-  close-incomplete u os o ev e h = rw (eq-eqb (o .number) x e, h, closeFrom)
+  close-incomplete u os o ev e h = rw (eq-eqb (o .element) x e, h, closeFrom)
 
-  pub close-complete : (u : Open) (os : List Open) (o : Open) (ev : List Event) → o .number ≡ x → isComplete s es D o ≡ true
+  pub close-complete : (u : Open) (os : List Open) (o : Open) (ev : List Event) → o .element ≡ x → isComplete s es D o ≡ true
       → closeFrom s es D x at after (u ∷ os) o ev ≡ got (record { current = u; around = os; events = ev ++ endWritten x at after ∷ [] })
   unfolding closeFrom
-  close-complete u os o ev e h = rw (eq-eqb (o .number) x e, h, closeFrom)
+  close-complete u os o ev e h = rw (eq-eqb (o .element) x e, h, closeFrom)
 
 -- The document's end
 

@@ -19,7 +19,7 @@ use Rattle.type_tables.specs.Tables.{Declares, Facts}
 use Rattle.event_buffer.specs.Buffers.{noted, Puts}
 use Rattle.event_buffer.specs.EventByEvent.{puts-none, puts-then}
 use Rattle.open_elements.specs.declared.Entry.{Entry}
-use Rattle.open_elements.specs.declared.Open.{Open}
+use Rattle.open_elements.specs.declared.OpenElements.{OpenElements}
 use Rattle.open_elements.specs.declared.Outcome.{Outcome}
 use Rattle.open_elements.specs.Stands.{none, ended, Ranged, Kept, AllKept, Stands}
 use Rattle.open_elements.specs.Becomes.{StandsWith, becomes-refused, becomes-got}
@@ -29,7 +29,7 @@ use Rattle.left_out_ends.specs.Ends.{inferredFrom, Numbered, left-incomp
 
 -- What the open elements say of the state that they stand for
 
-module _ {es : List Element} {M begun : List ℕ} {o : Open} {z : State} (h : Stands es M begun o z) where
+module _ {es : List Element} {M begun : List ℕ} {o : OpenElements} {z : State} (h : Stands es M begun o z) where
   pub stands-complete : (s : List ℕ) → isComplete s es (decided s es) (z .current) ≡ o .complete
   stands-complete s = ap (λ (k : ℕ). isCompleteIn (contentOf es k) (z .current .taken)) (h .current .entered .number) ∙ sym (h .current .complete)
 
@@ -39,7 +39,7 @@ kept-numbered a n x o [] h k = tt
 kept-numbered a zero x o (u ∷ os) h k = absurd k
 kept-numbered a (suc n) x o (u ∷ os) h k = (omega (arith, h .inner (omega arith), h .entered .number), kept-numbered a n (getD a n none) u os (k .0) (k .1))
 
-pub stands-numbered : {es : List Element} {M begun : List ℕ} {o : Open} {z : State} → Stands es M begun o z → Numbered (z .current) (z .around)
+pub stands-numbered : {es : List Element} {M begun : List ℕ} {o : OpenElements} {z : State} → Stands es M begun o z → Numbered (z .current) (z .around)
 stands-numbered {o = o} {z = z} h = kept-numbered (o .around) (o .count) _ (z .current) (z .around) (h .current) (h .around)
 
 -- What the tables' answers say
@@ -48,7 +48,7 @@ stands-numbered {o = o} {z = z} h = kept-numbered (o .around) (o .count) _ (z .c
 abbrev pub SaysOmitted : (facts : List ℕ) (e : ℕ) → Bool → Type 0
 SaysOmitted facts e b = (s : List ℕ) (es : List Element) (raised : ℕ → Bool) → Facts s es raised facts → Declares es (start e) → b ≡ endO es e
 
-module _ (facts : List ℕ) (o : Open) where
+module _ (facts : List ℕ) (o : OpenElements) where
   pub judges-incomplete : o .complete ≡ false → Judges facts o 13
   judges-incomplete e =
       record {
@@ -58,7 +58,7 @@ module _ (facts : List ℕ) (o : Open) where
       }
 
   module _ {d : Bool} (e : o .complete ≡ true) (m : SaysOmitted facts (o .element .0) d) where
-    omitted : (s : List ℕ) (es : List Element) (raised : ℕ → Bool) → Facts s es raised facts → {M begun : List ℕ} {z : State} → Stands es M begun o z → 1 ≤ o .count → endO es (z .current .number) ≡ d
+    omitted : (s : List ℕ) (es : List Element) (raised : ℕ → Bool) → Facts s es raised facts → {M begun : List ℕ} {z : State} → Stands es M begun o z → 1 ≤ o .count → endO es (z .current .element) ≡ d
     omitted s es raised f h l = ap (endO es) (h .current .entered .number) ∙ sym (m s es raised f (stands-declared h l))
 
     pub judges-required : d ≡ false → Judges facts o 14
@@ -82,7 +82,7 @@ module _ (facts : List ℕ) (o : Open) where
 
 -- The state q, after k events, is on the way from o to where no more ends are inferred: wherever o stands for a state of the rules, q does for one from
 -- which they come to the same.
-pub record Goes (facts : List ℕ) (x at n : ℕ) (o : Open) (numbers bytes : List ℕ) (q : Open) (k : ℕ) (numbers′ bytes′ : List ℕ) : Type 0 where
+pub record Goes (facts : List ℕ) (x at n : ℕ) (o : OpenElements) (numbers bytes : List ℕ) (q : OpenElements) (k : ℕ) (numbers′ bytes′ : List ℕ) : Type 0 where
   pub ranged : Ranged q
   pub events : List Event
   pub puts : Puts numbers bytes n events numbers′ bytes′
@@ -97,17 +97,17 @@ due-refused at zero e h = absurd (h refl)
 due-refused at (suc n) e h = refl
 
 -- One turn: what is around the current element is taken apart, and its end is due.
-from-past : (s : List ℕ) (es : List Element) (x at : ℕ) (y : State) (u : rules.Open) (us : List rules.Open) → y .around ≡ u ∷ us → (y .current .number ≡ x → ⊥) → {due : Reading Event} → endLeftOut s es (decided s es) at (y .current) ≡ due
+from-past : (s : List ℕ) (es : List Element) (x at : ℕ) (y : State) (u : rules.Open) (us : List rules.Open) → y .around ≡ u ∷ us → (y .current .element ≡ x → ⊥) → {due : Reading Event} → endLeftOut s es (decided s es) at (y .current) ≡ due
     → inferredFrom s es (decided s es) x at y ≡ andThen due λ e. inferredFrom s es (decided s es) x at (state u us (y .events ++ e ∷ []))
 from-past s es x at y u us e n i =
     ap (λ (os : List rules.Open). inferEnds s es (decided s es) x at os (y .current) (y .events)) e
     ∙ ends-past s es (decided s es) x at u us (y .current) (y .events) n
     ∙ ap (λ (d : Reading Event). andThen d λ t. inferredFrom s es (decided s es) x at (state u us (y .events ++ t ∷ []))) i
 
-abbrev pub left : Open → (events number : ℕ) → Outcome
+abbrev pub left : OpenElements → (events number : ℕ) → Outcome
 left o k number = record { «open» = o; events = k; number = number }
 
-module _ {facts : List ℕ} {x at n : ℕ} {o : Open} {numbers bytes : List ℕ} where
+module _ {facts : List ℕ} {x at n : ℕ} {o : OpenElements} {numbers bytes : List ℕ} where
   pub goes-start : Ranged o → Goes facts x at n o numbers bytes o n numbers bytes
   goes-start h =
       record {
@@ -120,7 +120,7 @@ module _ {facts : List ℕ} {x at n : ℕ} {o : Open} {numbers bytes : List ℕ}
         same = λ s es raised f M begun z st. (z, st, sym (append-nil (z .events)), refl);
       }
 
-  module _ {q : Open} {k : ℕ} {numbers′ bytes′ : List ℕ} (g : Goes facts x at n o numbers bytes q k numbers′ bytes′) where
+  module _ {q : OpenElements} {k : ℕ} {numbers′ bytes′ : List ℕ} (g : Goes facts x at n o numbers bytes q k numbers′ bytes′) where
     abbrev brings : (number : ℕ) → number < 20 → Brings n numbers bytes (left q k number) numbers′ bytes′
     brings number h = record { ranged = g .ranged; small = h; events = g .events; puts = g .puts; counted = g .counted; plain = g .plain }
 
@@ -162,7 +162,7 @@ module _ {facts : List ℕ} {x at n : ℕ} {o : Open} {numbers bytes : List ℕ}
                 (i ∙ from-past s es x at y (a .parent) (a .others) (a .are) (λ e. m (sym (here .current .entered .number) ∙ e)) (j .due s es raised f M begun y here l at ∙ due-refused at number (endInferred (q .element .0) at) some));
           }
 
-      pub goes-turn : number ≡ 0 → {next : Open} {m : ℕ} {numbers″ bytes″ : List ℕ} → next ≡ ended q → m ≡ k + 1 → Puts numbers′ bytes′ k (noted 4 (q .element .0) at 0 0 ∷ []) numbers″ bytes″
+      pub goes-turn : number ≡ 0 → {next : OpenElements} {m : ℕ} {numbers″ bytes″ : List ℕ} → next ≡ ended q → m ≡ k + 1 → Puts numbers′ bytes′ k (noted 4 (q .element .0) at 0 0 ∷ []) numbers″ bytes″
           → Goes facts x at n o numbers bytes next m numbers″ bytes″
       goes-turn nothing {numbers″ = numbers″} {bytes″} e c p =
           let event = endInferred (q .element .0) at in

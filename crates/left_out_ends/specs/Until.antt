@@ -15,7 +15,7 @@ use Rattle.rules_laws.specs.BeforeStarts.{Plain}
 use Rattle.document_laws.specs.Decide.{decided}
 use Rattle.type_tables.specs.Tables.{Facts}
 use Rattle.event_buffer.specs.Buffers.{Puts}
-use Rattle.open_elements.specs.declared.Open.{Open}
+use Rattle.open_elements.specs.declared.OpenElements.{OpenElements}
 use Rattle.open_elements.specs.declared.Outcome.{Outcome}
 use Rattle.open_elements.specs.Stands.{Becomes, Ranged, Stands}
 
@@ -23,7 +23,7 @@ use Rattle.open_elements.specs.Stands.{Becomes, Ranged, Stands}
 unfoldable pub inferEnds : List ℕ → List Element → Decisions → (x at : ℕ) → List rules.Open → rules.Open → List Event → Reading State
 inferEnds s es D x at [] o ev = got (record { current = o; around = []; events = ev })
 inferEnds s es D x at (u ∷ around) o ev =
-    elim (eqb (o .number) x) [
+    elim (eqb (o .element) x) [
       | true ↦ got (record { current = o; around = u ∷ around; events = ev })
       | false ↦ andThen (endLeftOut s es D at o) λ e. inferEnds s es D x at around u (ev ++ e ∷ [])
     ]
@@ -34,7 +34,7 @@ dueOf at zero e = got e
 dueOf at (suc n) e = refused (suc n) at
 
 -- The number says whether the end of the current element, which is not the document, may be inferred.
-pub record Judges (facts : List ℕ) (o : Open) (number : ℕ) : Type 0 where
+pub record Judges (facts : List ℕ) (o : OpenElements) (number : ℕ) : Type 0 where
   pub small : number < 20
   pub sure : number ≡ 0 → o .complete ≡ true
   pub due : (s : List ℕ) (es : List Element) (raised : ℕ → Bool) → Facts s es raised facts → (M begun : List ℕ) (z : State) → Stands es M begun o z → 1 ≤ o .count → (at : ℕ)
@@ -51,7 +51,7 @@ pub record Brings (n : ℕ) (numbers bytes : List ℕ) (r : Outcome) (numbers′
   pub plain : Plain events
 
 -- The outcome r is what inferring ends comes to from the state o. At most one end is inferred for each element that is open no more.
-pub record Until (facts : List ℕ) (x at n : ℕ) (o : Open) (numbers bytes : List ℕ) (r : Outcome) (numbers′ bytes′ : List ℕ) : Type 0 where
+pub record Until (facts : List ℕ) (x at n : ℕ) (o : OpenElements) (numbers bytes : List ℕ) (r : Outcome) (numbers′ bytes′ : List ℕ) : Type 0 where
   pub brings : Brings n numbers bytes r numbers′ bytes′
   pub few : length (brings .events) + r .open .count ≤ o .count
   pub reached : r .number ≡ 0 → 1 ≤ r .open .count → r .open .element .0 ≡ x

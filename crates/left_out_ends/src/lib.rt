@@ -7,7 +7,7 @@
 use layout::ElementNo;
 use layout::FACTS;
 use layout::Place;
-use open_elements::Open;
+use open_elements::OpenElements;
 use open_elements::Outcome;
 ghost use Prim.Native.Nat.{_+_, _<_};
 ghost use Rattle.layout.specs.Sizes.{TOKEN-EVENTS};
@@ -15,7 +15,7 @@ ghost use Rattle.open_elements.specs.Stands.{Ranged};
 ghost use Rattle.left_out_ends.specs.Until.{Judges, Until};
 
 // Why the current element cannot have its end inferred by an end tag or the document's end: 13, 14, or 0 if it can.
-fn end_fault(facts: &[u8; FACTS], o: Open) -> u32
+fn end_fault(facts: &[u8; FACTS], o: OpenElements) -> u32
     requires { ⌜ Ranged o ⌝ }
     ensures { λ r. ⌜ Judges (now (facts .entry)) o r ⌝ }
 {
@@ -35,7 +35,7 @@ fn end_fault(facts: &[u8; FACTS], o: Open) -> u32
 // stands in the type, nor are the events.
 pub fn end_until(
     facts: &[u8; FACTS],
-    state: Open,
+    state: OpenElements,
     x: ElementNo,
     at: usize,
     n: usize,

@@ -11,7 +11,7 @@ use Rattle.model_links.specs.Each.{each}
 unfoldable pub putFree : List ℕ → (i x : ℕ) → List ℕ
 putFree M i x = cond (eqb (getD M i 0) 0) (set M i x) M
 
--- The member h, and 128 more if the table has w after u.
+-- The member h, and `ENDING` more if the table has w after u.
 abbrev pub marked : List ℕ → (u w h : ℕ) → ℕ
 marked T u w h = h + cond (eqb (getD T (u * MODEL-ROW + w) 0) 1) ENDING 0
 

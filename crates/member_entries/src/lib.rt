@@ -1,8 +1,8 @@
 // What the table of the members of "&" groups keeps of one member, and of one group.
 //
-// Of each content: for each position the innermost member that holds the place, or 0, and 128 more where the place can end that member; for each member its
+// Of each content: for each position the innermost member that holds the place, or 0, and `ENDING` more where the place can end that member; for each member its
 // group; for each member the place that it requires at its start, or 0; for each group its first member, how many of its members cannot be nothing, how many
-// there are, and the innermost member that holds it, or 0, and 128 more where that member can end with this group.
+// there are, and the innermost member that holds it, or 0, and `ENDING` more where that member can end with this group.
 use layout::ENDING;
 use layout::GROUP;
 use layout::LASTS;
@@ -35,7 +35,7 @@ fn put_free(members: &mut [u8], i: usize, x: u8)
     }
 }
 
-// The member h, and 128 more if w may come next after the place u.
+// The member h, and `ENDING` more if w may come next after the place u.
 fn mark(table: &[u8; MODEL], u: usize, w: usize, h: usize) -> u8
     requires { ⌜ u < 256 ⌝ }
     requires { ⌜ w < 256 ⌝ }

@@ -11,7 +11,7 @@ use Rattle.rules.specs.Walk.{Group, Members}
 use Rattle.rules.specs.Bytes.{GRPGTCNT}
 use Rattle.layout.specs.Sizes.{ENDING}
 use Rattle.basic_laws.specs.Truth.{or-left, or-right, or-cases, not-true}
-use Rattle.model_sets.specs.Sets.{has, hasM, must}
+use Rattle.model_sets.specs.Sets.{has, hasM, requiredFirst}
 use Rattle.and_laws.specs.Base.{mem, mem-left, mem-right, mem-cases, mem-head}
 use Rattle.and_laws.specs.Sets.{meets, Good, meets-common, common-meets}
 use Rattle.and_laws.specs.Ranked.{Level, levels}
@@ -43,7 +43,7 @@ module _ (M : List ℕ) (e : ℕ) where
 
   module _ (l : Level) (kept : Grouped M e l) where
     pub numbered-group : (n : ℕ) (k : Group) → NumberedAt l n k → groupAt M e n ≡ l .number
-    numbered-group n k i = each-at _ _ (λ (n : ℕ) (g : Group). (groupAt M e n ≡ l .number) × (dueAt M e n ≡ must g)) (l .members) (kept .members) n k i .0
+    numbered-group n k i = each-at _ _ (λ (n : ℕ) (g : Group). (groupAt M e n ≡ l .number) × (dueAt M e n ≡ requiredFirst g)) (l .members) (kept .members) n k i .0
 
     pub numbered-small : (n : ℕ) (k : Group) → NumberedAt l n k → (1 ≤ n) × (n ≤ GRPGTCNT)
     numbered-small n k i = go (numbered-range _ _ (l .members) n k i)
@@ -52,8 +52,8 @@ module _ (M : List ℕ) (e : ℕ) where
         go (needed a b c) = omega (arith, amount-both (l .members), kept .some, kept .room)
         go (spare a b c) = omega (arith, amount-both (l .members), kept .some, kept .room)
 
-    pub numbered-due : Each (λ (n : ℕ) (g : Group). dueAt M e n ≡ must g) (firstAt M e (l .number)) (needs (l .members)) (l .members)
-    numbered-due = at-each _ _ (λ (n : ℕ) (g : Group). dueAt M e n ≡ must g) (l .members) (λ n k i. each-at _ _ (λ (n : ℕ) (g : Group). (groupAt M e n ≡ l .number) × (dueAt M e n ≡ must g)) (l .members) (kept .members) n k i .1)
+    pub numbered-due : Each (λ (n : ℕ) (g : Group). dueAt M e n ≡ requiredFirst g) (firstAt M e (l .number)) (needs (l .members)) (l .members)
+    numbered-due = at-each _ _ (λ (n : ℕ) (g : Group). dueAt M e n ≡ requiredFirst g) (l .members) (λ n k i. each-at _ _ (λ (n : ℕ) (g : Group). (groupAt M e n ≡ l .number) × (dueAt M e n ≡ requiredFirst g)) (l .members) (kept .members) n k i .1)
 
     module _ (u : ℕ) (i : hasM (l .members) u ≡ true) where
       pub member-group : groupAt M e (memberAt u l) ≡ l .number
@@ -68,7 +68,7 @@ module _ (M : List ℕ) (e : ℕ) where
   chain-kept u ends h [] c = refl
   chain-kept u ends h (l ∷ ls) (k, f, x, y, c) = (k, chain-kept u _ _ ls c)
 
-  -- The holder is none, or the member of the first group, with 128 more where it can end.
+  -- The holder is none, or the member of the first group, with `ENDING` more where it can end.
   pub chain-none : (u : ℕ) (ends : Bool) (h : ℕ) (ls : List Level) → Chain M e u ends h ls → EachLevel (λ (l : Level). hasM (l .members) u ≡ true) ls → h % ENDING ≡ 0 → ls ≡ []
   chain-none u ends h [] c i z = refl
   chain-none u ends h (l ∷ ls) (k, true, x, y, c) (i, j) z = absurd (omega (arith, member-small l k u i))

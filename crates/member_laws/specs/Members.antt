@@ -10,7 +10,7 @@ use lib.Dec.{eqb, ltb, leb}
 use Rattle.rules.specs.Bytes.{GRPCNT}
 use Rattle.rules.specs.Walk.{Group, place, seq, alt, opt, plus, and, Members, one, also}
 use Rattle.layout.specs.Sizes.{POSITIONS, AND-GROUPS, GROUP, REACHES, NEEDED, MEMBER-BITS, SETS, MEMBER, MEMBERS, BEGUN-WORDS, ENDING}
-use Rattle.model_sets.specs.Sets.{has, nullable, lastM, must, amount}
+use Rattle.model_sets.specs.Sets.{has, nullable, lastM, requiredFirst, amount}
 use Rattle.and_laws.specs.Base.{mem}
 use Rattle.and_laws.specs.Sets.{meets}
 use Rattle.and_laws.specs.Ranked.{Level, levels}
@@ -76,7 +76,7 @@ abbrev pub bitAt : (M : List ℕ) (i h : ℕ) → Bool
 bitAt M i h = eqb (getD M (i + (h - 1) / 8) 0 / 2 ^ ((h - 1) % 8) % 2) 1
 
 module _ (M : List ℕ) (e : ℕ) where
-  -- The innermost member that holds the place p, and 128 more where p can end it; 0 if none does.
+  -- The innermost member that holds the place p, and `ENDING` more where p can end it; 0 if none does.
   abbrev pub holderAt : ℕ → ℕ
   holderAt p = getD M (e * MEMBER + p) 0
 
@@ -87,7 +87,7 @@ module _ (M : List ℕ) (e : ℕ) where
   abbrev pub dueAt : ℕ → ℕ
   dueAt h = getD M (e * MEMBER + 2 * POSITIONS + h) 0
 
-  -- Of the group n the first member, how many cannot be nothing, how many there are, and the innermost member that holds it, with 128 more where that
+  -- Of the group n the first member, how many cannot be nothing, how many there are, and the innermost member that holds it, with `ENDING` more where that
   -- can end with the group.
   abbrev pub recordAt : ℕ → ℕ
   recordAt n = e * MEMBER + 3 * POSITIONS + n * GROUP
@@ -159,7 +159,7 @@ module _ (M : List ℕ) (e : ℕ) where
     pub few : amount (l .members) ≤ GRPCNT
     pub needed : neededAt (l .number) ≡ needs (l .members)
     pub size : sizeAt (l .number) ≡ amount (l .members)
-    pub members : Each (λ (n : ℕ) (g : Group). (groupAt n ≡ l .number) × (dueAt n ≡ must g)) (firstAt (l .number)) (needs (l .members)) (l .members)
+    pub members : Each (λ (n : ℕ) (g : Group). (groupAt n ≡ l .number) × (dueAt n ≡ requiredFirst g)) (firstAt (l .number)) (needs (l .members)) (l .members)
 
   -- From a holder outwards the table has these groups around the place u. Whether a member can end is told as long as u can end those within it.
   abbrev pub Chain : (u : ℕ) (ends : Bool) (holder : ℕ) → List Level → Type 0

@@ -11,11 +11,11 @@ use lib.Dec.{eqb, leb}
 use borrow.Author.Tests.{eqb-true, eq-eqb, le-leb, lt-leb}
 use Rattle.rules.specs.Walk.{Group, Members, one, also}
 use Rattle.basic_laws.specs.Truth.{or-left, or-right, or-cases, not-true, not-both, bool-cases}
-use Rattle.model_sets.specs.Sets.{has, hasM, nullable, must, amount}
+use Rattle.model_sets.specs.Sets.{has, hasM, nullable, requiredFirst, amount}
 use Rattle.and_laws.specs.Base.{mem}
 use Rattle.and_laws.specs.Sets.{meets, GoodM}
 use Rattle.and_laws.specs.Rest.{allM, anyM}
-use Rattle.and_laws.specs.Req.{restReq}
+use Rattle.and_laws.specs.Req.{requiredRest}
 use Rattle.and_laws.specs.Rows.{fine}
 use Rattle.and_laws.specs.Filed.{Distinct, all-each, each-all, lone-one, lone-two, IsNumber, Filed, fineNumber, filed-fine, filed-rest}
 use Rattle.member_laws.specs.Members.{needs, spares, numberFor, numberIn, Each}
@@ -215,7 +215,7 @@ module _ (first : ℕ) (m : Members) where
   null n = leb (first + needs m) n
 
   -- The bit of each member says whether it has begun, and the table what it requires at its start.
-  module _ (S B : ℕ → Bool) (r : ℕ → ℕ) (marked : Each (λ (n : ℕ) (g : Group). B n ≡ meets g S) first (needs m) m) (due : Each (λ (n : ℕ) (g : Group). r n ≡ must g) first (needs m) m) where
+  module _ (S B : ℕ → Bool) (r : ℕ → ℕ) (marked : Each (λ (n : ℕ) (g : Group). B n ≡ meets g S) first (needs m) m) (due : Each (λ (n : ℕ) (g : Group). r n ≡ requiredFirst g) first (needs m) m) where
     filed : Filed S B null r m (numbersOf first (needs m) m)
     filed =
         filed-each
@@ -226,7 +226,7 @@ module _ (first : ℕ) (m : Members) where
         null
         r
         m
-        (at-each first (needs m) (IsNumber S B null r) m (λ n k i. (each-at first (needs m) (λ (n : ℕ) (g : Group). B n ≡ meets g S) m marked n k i, null-numbered n k i, each-at first (needs m) (λ (n : ℕ) (g : Group). r n ≡ must g) m due n k i)))
+        (at-each first (needs m) (IsNumber S B null r) m (λ n k i. (each-at first (needs m) (λ (n : ℕ) (g : Group). B n ≡ meets g S) m marked n k i, null-numbered n k i, each-at first (needs m) (λ (n : ℕ) (g : Group). r n ≡ requiredFirst g) m due n k i)))
 
     -- No member is lacking exactly if all have begun that cannot be nothing.
     pub none-lacks : ((j : ℕ) → j < needs m → B (first + j) ≡ true) → allM (fine S) m ≡ true
@@ -254,12 +254,12 @@ module _ (first : ℕ) (m : Members) where
     behind n i = let x = numbers-range n i in (n - first, omega arith, omega arith)
 
     -- The place that is required is that of the only member that has not begun.
-    pub rest-one : (j : ℕ) → j < amount m → B (first + j) ≡ false → ((i : ℕ) → i < amount m → B (first + i) ≡ false → i ≡ j) → restReq m S ≡ r (first + j)
+    pub rest-one : (j : ℕ) → j < amount m → B (first + j) ≡ false → ((i : ℕ) → i < amount m → B (first + i) ≡ false → i ≡ j) → requiredRest m S ≡ r (first + j)
     rest-one j l e f =
         filed-rest S B null r m (numbersOf first (needs m) m) filed
         ∙ lone-one B r (numbersOf first (needs m) m) (distinct-numbers first (needs m) m (omega arith)) (first + j) (among j l) e (λ n i z. let (k, v, w) = behind n i in w ∙ ap (_+_ first) (f k v (rw (← w) z)))
 
-    pub rest-two : (i j : ℕ) → (i ≡ j → ⊥) → i < amount m → j < amount m → B (first + i) ≡ false → B (first + j) ≡ false → restReq m S ≡ 0
+    pub rest-two : (i j : ℕ) → (i ≡ j → ⊥) → i < amount m → j < amount m → B (first + i) ≡ false → B (first + j) ≡ false → requiredRest m S ≡ 0
     rest-two i j n k l x y =
         filed-rest S B null r m (numbersOf first (needs m) m) filed
         ∙ lone-two B r (numbersOf first (needs m) m) (first + i) (first + j) (λ e. n (omega arith)) (among i k) (among j l) x y

@@ -63,9 +63,9 @@ module _ (M : List ℕ) (e : ℕ) where
       begun-fine f = none-lacks (firstAt M e (l .number)) (l .members) S (begunAt begun level) (dueAt M e) marked (numbered-due M e l kept) (λ j h. let own = range-own (firstAt M e (l .number) + j) (omega arith) (omega (arith, amount-both (l .members))) in f (firstAt M e (l .number) + j) own (needed-own sets (firstAt M e (l .number) + j) own ∙ lt-ltb (firstAt M e (l .number) + j) (firstAt M e (l .number) + needs (l .members)) (omega arith)))
 
       pub fine-begun : allM (fine S) (l .members) ≡ true → (n : ℕ) → isOwn M e (l .number) n ≡ true → isNeeded M e n ≡ true → begunAt begun level n ≡ true
-      fine-begun all n own must =
+      fine-begun all n own requiredFirst =
           let (a, b) = own-range n own in
-          let low = ltb-true n (firstAt M e (l .number) + needs (l .members)) (sym (needed-own sets n own) ∙ must) in
+          let low = ltb-true n (firstAt M e (l .number) + needs (l .members)) (sym (needed-own sets n own) ∙ requiredFirst) in
           let is : firstAt M e (l .number) + (n - firstAt M e (l .number)) ≡ n = omega arith in
           subst (λ (x : ℕ). begunAt begun level x ≡ true) is (lacks-none (firstAt M e (l .number)) (l .members) S (begunAt begun level) (dueAt M e) marked (numbered-due M e l kept) all (n - firstAt M e (l .number)) (omega arith))
 

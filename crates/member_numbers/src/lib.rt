@@ -26,7 +26,7 @@ fn number(members: &[u8], i: usize) -> usize
     numbers::wide(members[i])
 }
 
-// The innermost member that holds the place p of the element e, and 128 more where p can end it; or 0.
+// The innermost member that holds the place p of the element e, and `ENDING` more where p can end it; or 0.
 pub fn holder(members: &[u8], e: ElementNo, p: Place) -> usize
     requires { ⌜ MEMBERS ≤ length (now members) ⌝ }
     requires { ⌜ (e .0 ≤ elementLimit) × (p .0 ≤ GRPGTCNT) ⌝ }
@@ -54,7 +54,7 @@ pub fn required_of(members: &[u8], e: ElementNo, h: usize) -> usize
 }
 
 // What is kept of the group g: the number of its first member; how many members cannot be nothing, which are numbered first; how many there are; the
-// innermost member that holds the group, and 128 more where it can end with the group, or 0.
+// innermost member that holds the group, and `ENDING` more where it can end with the group, or 0.
 pub fn of_group(members: &[u8], e: ElementNo, g: usize, which: usize) -> usize
     requires { ⌜ MEMBERS ≤ length (now members) ⌝ }
     requires { ⌜ (e .0 ≤ elementLimit) × (g ≤ 255) × (which ≤ 3) ⌝ }

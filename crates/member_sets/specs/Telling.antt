@@ -12,7 +12,7 @@ use borrow.Author.Tests.{le-ltb}
 use Rattle.rules.specs.Walk.{Group, Members}
 use Rattle.rules.specs.Bytes.{GRPGTCNT}
 use Rattle.layout.specs.Sizes.{POSITIONS, AND-GROUPS, REACHES, NEEDED, MEMBER, MEMBERS}
-use Rattle.model_sets.specs.Sets.{has, must, amount}
+use Rattle.model_sets.specs.Sets.{has, requiredFirst, amount}
 use Rattle.and_laws.specs.Ranked.{Level, levels}
 use Rattle.member_laws.specs.Members.{needs, bitAt, holderAt, groupAt, dueAt, recordAt, firstAt, neededAt, AllSets, Ordered, Grouped, Chain, Told}
 use Rattle.member_laws.specs.Numbered.{amount-both, each-at, at-each, Ranged, needed, spare, numbered-range}
@@ -40,10 +40,10 @@ module _ (M S : List ℕ) (e : ℕ) (same : Low M S e) where
         size = record-same M S e same (l .number) 2 (h .within) (omega arith) ∙ h .size;
         members =
             rw first
-            (at-each start (needs (l .members)) (λ (n : ℕ) (g : Group). (groupAt S e n ≡ l .number) × (dueAt S e n ≡ must g)) (l .members)
+            (at-each start (needs (l .members)) (λ (n : ℕ) (g : Group). (groupAt S e n ≡ l .number) × (dueAt S e n ≡ requiredFirst g)) (l .members)
             (λ n k i.
             let below = number-below start (l .members) n k (numbered-range start (needs (l .members)) (l .members) n k i) in
-            let (a, b) = each-at start (needs (l .members)) (λ (n : ℕ) (g : Group). (groupAt M e n ≡ l .number) × (dueAt M e n ≡ must g)) (l .members) (h .members) n k i in
+            let (a, b) = each-at start (needs (l .members)) (λ (n : ℕ) (g : Group). (groupAt M e n ≡ l .number) × (dueAt M e n ≡ requiredFirst g)) (l .members) (h .members) n k i in
             (low-at M S e same _ (POSITIONS + n) (omega arith) (omega arith) ∙ a, low-at M S e same _ (2 * POSITIONS + n) (omega arith) (omega arith) ∙ b)));
       }
 

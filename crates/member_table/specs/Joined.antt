@@ -12,7 +12,7 @@ use Rattle.rules.specs.Walk.{Group, Members, one, also}
 use Rattle.rules.specs.Bytes.{GRPGTCNT}
 use Rattle.layout.specs.Sizes.{POSITIONS, MODEL-ROW, AND-GROUPS, ENDING, REACHES}
 use Rattle.basic_laws.specs.Truth.{bool-cases, not-both, or-none, no-from}
-use Rattle.model_sets.specs.Sets.{has, hasM, size, sizeM, Numbered, NumberedM, nullable, last, lastM, must, amount}
+use Rattle.model_sets.specs.Sets.{has, hasM, size, sizeM, Numbered, NumberedM, nullable, last, lastM, requiredFirst, amount}
 use Rattle.and_laws.specs.Base.{Apart}
 use Rattle.and_laws.specs.Sets.{GoodM}
 use Rattle.and_laws.specs.Decide.{or-only}
@@ -32,7 +32,7 @@ use Rattle.model_sets.specs.Numbering.{size-one, amount-one, has-inside}
 
 -- What is on the stack of a group whose places begin at `lo`; the members of a group on the stack.
 abbrev pub pieceOf : Group → ℕ → Piece
-pieceOf g lo = record { lo = lo; last = lo + size g - 1; null = nullable g; required = must g }
+pieceOf g lo = record { lo = lo; last = lo + size g - 1; null = nullable g; required = requiredFirst g }
 
 abbrev pub Pieces : List Piece → (first : ℕ) → Members → ℕ → Type 0
 Pieces stack first (one g) lo = pieceAt stack (first + 0) ≡ pieceOf g lo
@@ -95,7 +95,7 @@ pub record Joined (base : ℕ) (lasts : List ℕ) (groups own needed : ℕ) (m :
   pub put : (s v : ℕ) → Slot base lasts groups s v → hasM m v ≡ true → getD M s 0 ≡ 0 → getD S s 0 ≡ numberIn own needed m v + cond (lastM m v) ENDING 0
   pub other : (s v : ℕ) → Slot base lasts groups s v → hasM m v ≡ false → getD S s 0 ≡ getD M s 0
   pub kept : Kept base lasts groups M S
-  pub each : Each (λ (n : ℕ) (g : Group). (getD S (base + POSITIONS + n) 0 ≡ groups + 1) × (getD S (base + 2 * POSITIONS + n) 0 ≡ must g)) own needed m
+  pub each : Each (λ (n : ℕ) (g : Group). (getD S (base + POSITIONS + n) 0 ≡ groups + 1) × (getD S (base + 2 * POSITIONS + n) 0 ≡ requiredFirst g)) own needed m
   pub rest :
       (k : ℕ)
       → ((u : ℕ) → u ≤ GRPGTCNT → k ≡ base + u → ⊥)
@@ -112,7 +112,7 @@ module _ (base : ℕ) (T lasts : List ℕ) (groups own needed : ℕ) where
       → Marks (rowsOf T) w g
       → numberFor own needed 0 0 g ≤ GRPGTCNT
       → (M S : List ℕ)
-      → Put base T lasts groups w (numberFor own needed 0 0 g) lo (lo + size g) (must g) M S
+      → Put base T lasts groups w (numberFor own needed 0 0 g) lo (lo + size g) (requiredFirst g) M S
       → Joined base lasts groups own needed (one g) M S
   joined-first g lo w n marks to M S p =
       record {
@@ -136,7 +136,7 @@ module _ (base : ℕ) (T lasts : List ℕ) (groups own needed : ℕ) where
       → own + needed + (spares m + cond (nullable g) 1 0) ≤ POSITIONS
       → (M R S : List ℕ)
       → Joined base lasts groups own needed m M R
-      → Put base T lasts groups w (numberFor own needed (needs m) (spares m) g) lo (lo + size g) (must g) R S
+      → Put base T lasts groups w (numberFor own needed (needs m) (spares m) g) lo (lo + size g) (requiredFirst g) R S
       → Joined base lasts groups own needed (also m g) M S
   joined-more m g lo w n a marks l room M R S j p =
       let to = number-to own needed (needs m) (spares m) g l room in
@@ -189,11 +189,11 @@ module _ (base : ℕ) (T lasts : List ℕ) (groups own needed : ℕ) where
         → numberAt stack first own needed j ≡ h
         → h ≤ GRPGTCNT
         → lo + size g ≤ POSITIONS
-        → Put base T lasts groups w h lo (lo + size g) (must g) S (putOne S base T lasts groups own stack first needed j)
+        → Put base T lasts groups w h lo (lo + size g) (requiredFirst g) S (putOne S base T lasts groups own stack first needed j)
     unfolding putOne
     one-put S room j w h g lo is other number to high =
         let e : lo + size g - 1 + 1 ≡ lo + size g = omega (arith, size-one g) in
-        rw (other, number, is, e) (puts base T lasts groups w h lo (lo + size g) (must g) S room few to (omega arith) high)
+        rw (other, number, is, e) (puts base T lasts groups w h lo (lo + size g) (requiredFirst g) S room few to (omega arith) high)
 
     pub joins :
         (m : Members) (lo : ℕ)

@@ -37,7 +37,7 @@ maybeSix a = sixes 0 0 .maybe a
 abbrev pub manySix : Six → Six
 manySix a = sixes 0 0 .many a
 
--- One number of the code upon a stack of at most 96: a place, "?", "+", and "," "|" "&" between two groups; 128 and more change nothing.
+-- One number of the code upon a stack of at most 96: a place, "?", "+", and "," "|" "&" between two groups; `AND-CODE` and more change nothing.
 abbrev ofTop : (Six → Six) → List Six → List Six
 ofTop f [] = []
 ofTop f (v ∷ st) = f v ∷ st

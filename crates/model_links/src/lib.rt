@@ -1,6 +1,6 @@
 // The cells of a content model's table: which places come after which, where groups are joined.
 //
-// The layout is that of the crate model_table: 97 rows of 98 numbers, row 0 with the places that can begin a group, column 0 with those
+// The layout is that of the crate model_table: `POSITIONS` rows of `MODEL_ROW` numbers, row 0 with the places that can begin a group, column 0 with those
 // that can end one, the last column with the required place.
 use layout::MODEL;
 use layout::MODEL_ROW;

@@ -18,7 +18,7 @@ use Rattle.model_code.specs.Six.{Told}
 use Rattle.model_names.specs.Places.{placesOf}
 use Rattle.model_pairs.specs.Rows.{isNext, rowIn, clashIn, Tells, faultIn}
 
--- A set of 97 to which the numbers below i that pass a test are added.
+-- A set of `POSITIONS` to which the numbers below i that pass a test are added.
 pub record Added (f : ℕ → Bool) (start set : List Bool) (i : ℕ) : Type 0 where
   pub len : length set ≡ POSITIONS
   pub done : (k : ℕ) → k < i → getD set k false ≡ (getD start k false || f k)

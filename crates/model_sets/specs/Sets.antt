@@ -110,31 +110,31 @@ abbrev mutual
 
 -- This is the place required at the start, and 0 if there is none.
 abbrev mutual
-  pub must : Group → ℕ
-  must (place n) = n
-  must (seq g h) = cond (nullable g) (must h) (must g)
-  must (alt g h) = 0
-  must (opt g) = 0
-  must (plus g) = must g
-  must (and m) = mustM m
+  pub requiredFirst : Group → ℕ
+  requiredFirst (place n) = n
+  requiredFirst (seq g h) = cond (nullable g) (requiredFirst h) (requiredFirst g)
+  requiredFirst (alt g h) = 0
+  requiredFirst (opt g) = 0
+  requiredFirst (plus g) = requiredFirst g
+  requiredFirst (and m) = requiredFirstM m
 
-  pub mustM : Members → ℕ
-  mustM (one g) = must g
-  mustM (also m g) = 0
+  pub requiredFirstM : Members → ℕ
+  requiredFirstM (one g) = requiredFirst g
+  requiredFirstM (also m g) = 0
 
 -- This is the place that would be required once u was the last taken, were every "&" group around u whole, and 0 if there is none.
 abbrev mutual
-  pub mustAfter : Group → ℕ → ℕ
-  mustAfter (place n) u = 0
-  mustAfter (seq g h) u = cond (has h u) (mustAfter h u) (cond (last g u && not (nullable h)) (must h) (mustAfter g u))
-  mustAfter (alt g h) u = cond (has h u) (mustAfter h u) (mustAfter g u)
-  mustAfter (opt g) u = mustAfter g u
-  mustAfter (plus g) u = mustAfter g u
-  mustAfter (and m) u = mustAfterM m u
+  pub requiredAfter : Group → ℕ → ℕ
+  requiredAfter (place n) u = 0
+  requiredAfter (seq g h) u = cond (has h u) (requiredAfter h u) (cond (last g u && not (nullable h)) (requiredFirst h) (requiredAfter g u))
+  requiredAfter (alt g h) u = cond (has h u) (requiredAfter h u) (requiredAfter g u)
+  requiredAfter (opt g) u = requiredAfter g u
+  requiredAfter (plus g) u = requiredAfter g u
+  requiredAfter (and m) u = requiredAfterM m u
 
-  pub mustAfterM : Members → ℕ → ℕ
-  mustAfterM (one g) u = mustAfter g u
-  mustAfterM (also m g) u = cond (has g u) (mustAfter g u) (mustAfterM m u)
+  pub requiredAfterM : Members → ℕ → ℕ
+  requiredAfterM (one g) u = requiredAfter g u
+  requiredAfterM (also m g) u = cond (has g u) (requiredAfter g u) (requiredAfterM m u)
 
 -- The three as rows: row 0 is the start, row u > 0 is after the place u.
 abbrev pub nextIn : Group → ℕ → ℕ → Bool
@@ -146,5 +146,5 @@ completeIn g zero = nullable g
 completeIn g (suc u) = last g (suc u)
 
 abbrev pub requiredIn : Group → ℕ → ℕ
-requiredIn g zero = must g
-requiredIn g (suc u) = mustAfter g (suc u)
+requiredIn g zero = requiredFirst g
+requiredIn g (suc u) = requiredAfter g (suc u)

@@ -1,6 +1,6 @@
 -- How the table of a content model is filled, group by group: functions on lists, of the shape of the code.
--- The table has 97 rows of 98 numbers. Row 0 is the start, row u is after the place u; the places are 1 to 96.
--- Column 0 is 1 where the content is complete, column p is 1 where the place p may come next, column 97 is the required place or 0.
+-- The table has `POSITIONS` rows of `MODEL-ROW` numbers. Row 0 is the start, row u is after the place u; the places are 1 to 96.
+-- Column 0 is 1 where the content is complete, column p is 1 where the place p may come next, the last column is the required place or 0.
 -- While a model is read, row 0 holds the places that can begin, and column 0 those that can end, the innermost finished group around them.
 use Prim.Native.Nat.{ℕ, _*_}
 use mathlib.Core.Bool.{Bool, _&&_, _||_, cond}
@@ -8,7 +8,7 @@ use mathlib.Core.List.{List}
 use lib.ListN.{set}
 use Rattle.rules.specs.Walk.{Group}
 use Rattle.layout.specs.Sizes.{MODEL-ROW, POSITIONS}
-use Rattle.model_sets.specs.Sets.{nullable, must}
+use Rattle.model_sets.specs.Sets.{nullable, requiredFirst}
 use Rattle.model_links.specs.Links.{link, settle, clearRow, unbegin}
 use Rattle.model_table.specs.declared.Part.{Part}
 
@@ -58,4 +58,4 @@ finished T g = set (set T 0 (cond (g .nullable) 1 0)) POSITIONS (g .required)
 
 -- This is kept of the group g.
 abbrev pub partOf : Group → Part
-partOf g = part (nullable g) (must g)
+partOf g = part (nullable g) (requiredFirst g)

@@ -12,7 +12,7 @@ use Rattle.basic_laws.specs.Numbers.{below-or-from}
 use Rattle.rules.specs.Walk.{Group, place, seq, alt, plus}
 use Rattle.rules.specs.Bytes.{GRPGTCNT}
 use Rattle.layout.specs.Sizes.{MODEL-ROW, MODEL-ROWS, MODEL, POSITIONS}
-use Rattle.model_sets.specs.Sets.{size, Numbered, has, nullable, first, last, follow, must, mustAfter, nextIn, completeIn, requiredIn}
+use Rattle.model_sets.specs.Sets.{size, Numbered, has, nullable, first, last, follow, requiredFirst, requiredAfter, nextIn, completeIn, requiredIn}
 use Rattle.model_links.specs.Links.{link, settle, clearRow, unbegin}
 use Rattle.model_table.specs.Fill.{putPlace, closeEnds, closeStarts, joinSeq, joinAnd, partOf, finished}
 use Rattle.model_links.specs.Cells.{bit, Linked, linked, linked-same, linked-end, cond-and-false, Settled, settled, Cleared, cleared-row, unbegun}
@@ -32,7 +32,7 @@ pub record Shows (lo hi : ℕ) (T S : List ℕ) (F L : ℕ → Bool) (N : ℕ �
 
 -- S says of the places of g what is computed of g.
 abbrev pub Filled : Group → ℕ → List ℕ → List ℕ → Type 0
-Filled g lo T S = Shows lo (lo + size g) T S (first g) (last g) (follow g) (mustAfter g)
+Filled g lo T S = Shows lo (lo + size g) T S (first g) (last g) (follow g) (requiredAfter g)
 
 -- What S says, R says too, if its rows are those of S.
 pub shows-same : {lo hi : ℕ} {T S : List ℕ} {F L : ℕ → Bool} {N : ℕ → ℕ → Bool} {M : ℕ → ℕ} (R : List ℕ) → lo ≤ POSITIONS → hi ≤ POSITIONS → length R ≡ MODEL → ((k : ℕ) → k < MODEL-ROWS → getD R k 0 ≡ getD S k 0)
@@ -134,7 +134,7 @@ module _ (g h : Group) (lo : ℕ) (from : 1 ≤ lo) (to : lo + size g + size h �
             (λ v ve vt. fh .follows v p ve vt p-from p-to ∙ ap bit (only-right (follow g v p) (follow h v p) (none-follow g v p (no-g v ve))))
             u ge lt;
         requires =
-            on-both (λ (u : ℕ). getD S (u * MODEL-ROW + POSITIONS) 0 ≡ cond (has h u) (mustAfter h u) (mustAfter g u))
+            on-both (λ (u : ℕ). getD S (u * MODEL-ROW + POSITIONS) 0 ≡ cond (has h u) (requiredAfter h u) (requiredAfter g u))
             (λ u ge lt. rw (no-h u lt) (fh .between (u * MODEL-ROW + POSITIONS) (omega arith) (omega arith) ∙ fg .requires u ge lt))
             (λ u ge lt. rw (has-inside h (lo + size g) u hn ge lt) (fh .requires u ge lt));
       }
@@ -164,7 +164,7 @@ module _ (g h : Group) (lo : ℕ) (from : 1 ≤ lo) (to : lo + size g + size h �
     first-h-97 : first h POSITIONS ≡ false
     first-h-97 = none-first h POSITIONS (has-over h (lo + size g) POSITIONS hn to)
 
-    in-sequence : Shows lo (lo + (size g + size h)) T R (first (alt g h)) (last (alt g h)) (follow (seq g h)) (mustAfter (alt g h))
+    in-sequence : Shows lo (lo + (size g + size h)) T R (first (alt g h)) (last (alt g h)) (follow (seq g h)) (requiredAfter (alt g h))
     in-sequence =
         record {
           len = r .len;
@@ -198,7 +198,7 @@ module _ (g h : Group) (lo : ℕ) (from : 1 ≤ lo) (to : lo + size g + size h �
 
   -- Where h can end and g can begin, g follows h.
   module _ (T R : List ℕ)
-      (s : Shows lo (lo + (size g + size h)) T R (first (alt g h)) (last (alt g h)) (follow (seq g h)) (mustAfter (alt g h))) where
+      (s : Shows lo (lo + (size g + size h)) T R (first (alt g h)) (last (alt g h)) (follow (seq g h)) (requiredAfter (alt g h))) where
     back-row-0 : (p : ℕ) → lo ≤ p → p < lo + size g → getD R p 0 ≡ bit (first g p)
     back-row-0 p ge lt = s .begins p ge (omega arith) ∙ ap bit (sym (only-left (first g p) (first h p) (none-first h p (no-h p lt))))
 
@@ -241,7 +241,7 @@ module _ (g h : Group) (lo : ℕ) (from : 1 ≤ lo) (to : lo + size g + size h �
         spread false false y = refl
 
     in-any-order : Shows lo (lo + (size g + size h)) T Q (first (alt g h)) (last (alt g h))
-        (λ u p. (follow g u p || follow h u p) || ((last g u && first h p) || (last h u && first g p))) (mustAfter (alt g h))
+        (λ u p. (follow g u p || follow h u p) || ((last g u && first h p) || (last h u && first g p))) (requiredAfter (alt g h))
     in-any-order =
         record {
           len = q .len;
@@ -275,14 +275,14 @@ module _ (g h : Group) (lo : ℕ) (from : 1 ≤ lo) (to : lo + size g + size h �
 
   -- Where h cannot be empty, g no longer ends the whole, and what h requires is required after it.
   module _ (T R : List ℕ)
-      (s : Shows lo (lo + (size g + size h)) T R (first (alt g h)) (last (alt g h)) (follow (seq g h)) (mustAfter (alt g h))) where
+      (s : Shows lo (lo + (size g + size h)) T R (first (alt g h)) (last (alt g h)) (follow (seq g h)) (requiredAfter (alt g h))) where
     ends-g : (u : ℕ) → lo ≤ u → u < lo + size g → getD R (u * MODEL-ROW) 0 ≡ bit (last g u)
     ends-g u ge lt = s .ends u ge (omega arith) ∙ ap bit (sym (only-left (last g u) (last h u) (none-last h u (no-h u lt))))
 
     ends-closed : (b : Bool)
-        → Shows lo (lo + (size g + size h)) T (cond b R (settle R lo (lo + size g) (must h))) (first (alt g h))
+        → Shows lo (lo + (size g + size h)) T (cond b R (settle R lo (lo + size g) (requiredFirst h))) (first (alt g h))
         (λ u. last h u || (b && last g u)) (follow (seq g h))
-        (λ u. cond (has h u) (mustAfter h u) (cond (last g u && not b) (must h) (mustAfter g u)))
+        (λ u. cond (has h u) (requiredAfter h u) (cond (last g u && not b) (requiredFirst h) (requiredAfter g u)))
     ends-closed true =
         record {
           len = s .len;
@@ -294,11 +294,11 @@ module _ (g h : Group) (lo : ℕ) (from : 1 ≤ lo) (to : lo + size g + size h �
           requires =
               λ u ge lt.
               s .requires u ge lt
-              ∙ ap (λ (y : ℕ). cond (has h u) (mustAfter h u) y) (sym (cond-and-false (last g u) false (must h) (mustAfter g u) refl));
+              ∙ ap (λ (y : ℕ). cond (has h u) (requiredAfter h u) y) (sym (cond-and-false (last g u) false (requiredFirst h) (requiredAfter g u) refl));
         }
     ends-closed false =
-        let S : List ℕ = settle R lo (lo + size g) (must h) in
-        let r : Settled (last g) (must h) R lo S (lo + size g) = settled (last g) (must h) R lo (lo + size g) (s .len) (omega arith) (omega arith) ends-g in
+        let S : List ℕ = settle R lo (lo + size g) (requiredFirst h) in
+        let r : Settled (last g) (requiredFirst h) R lo S (lo + size g) = settled (last g) (requiredFirst h) R lo (lo + size g) (s .len) (omega arith) (omega arith) ends-g in
         record {
           len = r .len;
           under = λ k lt. r .rows-before k (omega arith) ∙ s .under k lt;
@@ -321,8 +321,8 @@ module _ (g h : Group) (lo : ℕ) (from : 1 ≤ lo) (to : lo + size g + size h �
               λ u ge lt.
               ⊎-elim
               (λ (x : u < lo + size g).
-              let was : getD R (u * MODEL-ROW + POSITIONS) 0 ≡ mustAfter g u = rw (no-h u x) at (s .requires u ge lt) in
-              rw (no-h u x, and-true (last g u)) (r .required u ge x ∙ ap (λ (y : ℕ). cond (last g u) (must h) y) was))
+              let was : getD R (u * MODEL-ROW + POSITIONS) 0 ≡ requiredAfter g u = rw (no-h u x) at (s .requires u ge lt) in
+              rw (no-h u x, and-true (last g u)) (r .required u ge x ∙ ap (λ (y : ℕ). cond (last g u) (requiredFirst h) y) was))
               (λ (x : lo + size g ≤ u).
               let is-h : has h u ≡ true = has-inside h (lo + size g) u hn x (omega arith) in
               rw is-h (r .rows-after (u * MODEL-ROW + POSITIONS) (omega arith) ∙ (rw is-h at (s .requires u ge lt))))
@@ -367,14 +367,14 @@ module _ (g h : Group) (lo : ℕ) (from : 1 ≤ lo) (to : lo + size g + size h �
   unfolding R closeEnds closeStarts
   sequence T S s =
       let linked-up = R T S s in
-      starts-closed T (cond (nullable h) linked-up (settle linked-up lo (lo + size g) (must h)))
-      (last (seq g h)) (follow (seq g h)) (mustAfter (seq g h)) (nullable g)
+      starts-closed T (cond (nullable h) linked-up (settle linked-up lo (lo + size g) (requiredFirst h)))
+      (last (seq g h)) (follow (seq g h)) (requiredAfter (seq g h)) (nullable g)
       (ends-closed T linked-up (in-sequence T S s) (nullable h))
 
   -- The two are put in any order.
   pub any-order : (T S : List ℕ) → Filled (alt g h) lo T S
       → Shows lo (lo + (size g + size h)) T (joinAnd S lo (lo + size g) (lo + size g + size h)) (first (alt g h)) (last (alt g h))
-      (λ u p. (follow g u p || follow h u p) || ((last g u && first h p) || (last h u && first g p))) (mustAfter (alt g h))
+      (λ u p. (follow g u p || follow h u p) || ((last g u && first h p) || (last h u && first g p))) (requiredAfter (alt g h))
   unfolding R Q
   any-order T S s = in-any-order T (R T S s) (in-sequence T S s)
 
@@ -435,10 +435,10 @@ module _ (g : Group) (gn : Numbered g 1) (to : size g ≤ GRPGTCNT) (T F : List 
   unfolding Z
   len-Z = length-set F 0 (cond (nullable g) 1 0) ∙ f .len
 
-  -- All but the first number and that of column 97 of row 0 are as they were.
-  as-filled : (k : ℕ) → 1 ≤ k → (k ≡ POSITIONS → ⊥) → getD (set Z POSITIONS (must g)) k 0 ≡ getD F k 0
+  -- All but the first number and that of the last column of row 0 are as they were.
+  as-filled : (k : ℕ) → 1 ≤ k → (k ≡ POSITIONS → ⊥) → getD (set Z POSITIONS (requiredFirst g)) k 0 ≡ getD F k 0
   unfolding Z
-  as-filled k ge ne = getD-set-other Z POSITIONS k (must g) 0 ne ∙ getD-set-other F 0 k (cond (nullable g) 1 0) 0 (omega arith)
+  as-filled k ge ne = getD-set-other Z POSITIONS k (requiredFirst g) 0 ne ∙ getD-set-other F 0 k (cond (nullable g) 1 0) 0 (omega arith)
 
   begin : (p : ℕ) → 1 ≤ p → p ≤ GRPGTCNT → getD F p 0 ≡ bit (first g p)
   begin p ge le =
@@ -446,24 +446,24 @@ module _ (g : Group) (gn : Numbered g 1) (to : size g ≤ GRPGTCNT) (T F : List 
       (λ (x : 1 + size g ≤ p). rw (none-first g p (has-over g 1 p gn x)) (f .between p x (omega arith) ∙ t .none p ge (omega arith)))
       (below-or-from p (1 + size g))
 
-  next-in : (u p : ℕ) → u ≤ size g → 1 ≤ p → p ≤ GRPGTCNT → getD (set Z POSITIONS (must g)) (u * MODEL-ROW + p) 0 ≡ cond (nextIn g u p) 1 0
+  next-in : (u p : ℕ) → u ≤ size g → 1 ≤ p → p ≤ GRPGTCNT → getD (set Z POSITIONS (requiredFirst g)) (u * MODEL-ROW + p) 0 ≡ cond (nextIn g u p) 1 0
   next-in zero p le p-from p-to =
       let e : 0 * MODEL-ROW + p ≡ p = omega arith in
       rw e (as-filled p p-from (omega arith) ∙ begin p p-from p-to)
   next-in (suc u) p le p-from p-to =
       as-filled (suc u * MODEL-ROW + p) (omega arith) (omega arith) ∙ f .follows (suc u) p (omega arith) (omega arith) p-from (omega arith)
 
-  complete-in : (u : ℕ) → u ≤ size g → getD (set Z POSITIONS (must g)) (u * MODEL-ROW) 0 ≡ cond (completeIn g u) 1 0
+  complete-in : (u : ℕ) → u ≤ size g → getD (set Z POSITIONS (requiredFirst g)) (u * MODEL-ROW) 0 ≡ cond (completeIn g u) 1 0
   unfolding Z
   complete-in zero le =
       let l = f .len in
-      getD-set-other Z POSITIONS 0 (must g) 0 (omega arith) ∙ getD-set-same F 0 (cond (nullable g) 1 0) 0 (omega arith)
+      getD-set-other Z POSITIONS 0 (requiredFirst g) 0 (omega arith) ∙ getD-set-same F 0 (cond (nullable g) 1 0) 0 (omega arith)
   complete-in (suc u) le = as-filled (suc u * MODEL-ROW) (omega arith) (omega arith) ∙ f .ends (suc u) (omega arith) (omega arith)
 
-  required-in : (u : ℕ) → u ≤ size g → getD (set Z POSITIONS (must g)) (u * MODEL-ROW + POSITIONS) 0 ≡ requiredIn g u
+  required-in : (u : ℕ) → u ≤ size g → getD (set Z POSITIONS (requiredFirst g)) (u * MODEL-ROW + POSITIONS) 0 ≡ requiredIn g u
   required-in zero le =
       let l = len-Z in
-      getD-set-same Z POSITIONS (must g) 0 (omega arith)
+      getD-set-same Z POSITIONS (requiredFirst g) 0 (omega arith)
   required-in (suc u) le = as-filled (suc u * MODEL-ROW + POSITIONS) (omega arith) (omega arith) ∙ f .requires (suc u) (omega arith) (omega arith)
 
   -- The table that was filled while a model was read says, once row 0 has its two columns, what is computed of the model.
@@ -471,7 +471,7 @@ module _ (g : Group) (gn : Numbered g 1) (to : size g ≤ GRPGTCNT) (T F : List 
   unfolding Z
   says =
       record {
-        len = length-set Z POSITIONS (must g) ∙ len-Z;
+        len = length-set Z POSITIONS (requiredFirst g) ∙ len-Z;
         next = next-in;
         complete = complete-in;
         required = required-in;

@@ -1,4 +1,4 @@
--- Open elements that stand for the same state are alike: the places taken decide the last of them and the marks.
+-- OpenElements elements that stand for the same state are alike: the places taken decide the last of them and the marks.
 use Prim.Native.Nat.{ℕ, zero, suc, _<_}
 use mathlib.Core.Path.{_≡_, sym, _∙_, ap}
 use mathlib.Core.Bool.{Bool}
@@ -16,7 +16,7 @@ use Rattle.rules_laws.specs.In.{All, more}
 use Rattle.document_laws.specs.Decide.{isCompleteIn, requiredFor}
 use Rattle.document_laws.specs.Same.{Begun, AllBegun}
 use Rattle.open_elements.specs.declared.Entry.{Entry}
-use Rattle.open_elements.specs.declared.Open.{Open}
+use Rattle.open_elements.specs.declared.OpenElements.{OpenElements}
 use Rattle.open_elements.specs.Stands.{none, covered, Kept, AllKept, Stands}
 use Rattle.open_elements.specs.Methods.{stands-deep}
 use Rattle.moments.specs.Moment.{Alike}
@@ -28,7 +28,7 @@ made a b c d = rw (a, b, c, d)
 module _ (es : List Element) (M : List ℕ) where
   -- What is kept of an open element in which the places taken begin a walk.
   kept-entry : {bits : List ℕ} {level : ℕ} (x : Entry) (o : rules.Open) → Kept es M bits level x o → Begun es o
-      → x ≡ record { element = o .number; place = lastOr0 (o .taken); complete = isCompleteIn (contentOf es (o .number)) (o .taken); required = requiredFor (contentOf es (o .number)) (o .taken) }
+      → x ≡ record { element = o .element; place = lastOr0 (o .taken); complete = isCompleteIn (contentOf es (o .element)) (o .taken); required = requiredFor (contentOf es (o .element)) (o .taken) }
   kept-entry x o h b =
       let e = h .entered .number in
       let place = last-is (o .taken) (x .place) (h .entered .stands (rw e at (b .has)) .last) in
@@ -47,7 +47,7 @@ module _ (es : List Element) (M : List ℕ) where
       by-place first rest (yes e) = rw e first
       by-place first rest (no e) = rest (omega arith)
 
-pub stands-alike : {es : List Element} {M bits other : List ℕ} {o q : Open} {z : State} → AllBegun es z → Stands es M bits o z → Stands es M other q z → Alike o q
+pub stands-alike : {es : List Element} {M bits other : List ℕ} {o q : OpenElements} {z : State} → AllBegun es z → Stands es M bits o z → Stands es M other q z → Alike o q
 stands-alike {es} {M} {bits} {other} {o} {q} {z} b h j =
     let counts : q .count ≡ o .count = sym (stands-deep j) ∙ stands-deep h in
     let entry : covered o ≡ covered q = entry-same es M (covered o) (covered q) (z .current) (h .current) (j .current) (b .current) in

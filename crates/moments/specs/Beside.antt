@@ -23,7 +23,7 @@ use Rattle.document_laws.specs.Chain.{inferable-may}
 use Rattle.document_laws.specs.Moves.{state, Answers, Chosen, fits, required}
 use Rattle.document_laws.specs.Same.{AllBegun, begun-moves, nothing-begun}
 use Rattle.type_tables.specs.Tables.{Tables, CanTake}
-use Rattle.open_elements.specs.declared.Open.{Open}
+use Rattle.open_elements.specs.declared.OpenElements.{OpenElements}
 use Rattle.open_elements.specs.Stands.{fresh, opening, ended, Ranged, Stands, Taking, Starting}
 use Rattle.type_tables.specs.Marks.{can-range}
 use Rattle.open_elements.specs.Methods.{stands-deep, stands-required, stands-fresh, stands-noted, stands-opening, stands-ended, stands-around, ranged-fresh, ranged-taking, ranged-opening, ranged-ended}
@@ -34,14 +34,14 @@ use Rattle.moments.specs.Moment.{Moment, Does, Asks, Along, Beside}
 
 module _ {c : Settings} (s : List ℕ) (es : List Element) (accepted : Accepts c s es) {M bits : List ℕ} where
   -- What has been shown of the two states makes a moment.
-  pub moment : {z : State} {o : Open} → Ranged o → Stands es M bits o z → AllBegun es z → Moment es M bits z o
+  pub moment : {z : State} {o : OpenElements} → Ranged o → Stands es M bits o z → AllBegun es z → Moment es M bits z o
   moment r h b = record { many = sym (stands-deep h); ranged = r; stands = h; begun = b; marks = marks-say s es accepted h }
 
   -- Nothing is open yet, whatever the bits are.
   pub moment-first : Moment es M bits nothingOpen fresh
   moment-first = moment ranged-fresh (stands-fresh es M bits) (nothing-begun es)
 
-  module _ {z : State} {o : Open} (m : Moment es M bits z o) where
+  module _ {z : State} {o : OpenElements} (m : Moment es M bits z o) where
     -- Whatever events are noted, what is open stays.
     pub moment-noted : (ev : List Event) → Moment es M bits (state (z .current) (z .around) ev) o
     moment-noted ev = moment (m .ranged) (stands-noted (m .stands) ev) (record { current = m .begun .current; around = m .begun .around })
@@ -71,14 +71,14 @@ module _ {c : Settings} (s : List ℕ) (es : List Element) (accepted : Accepts c
       pub can-take : {p : ℕ} → Chosen s es D (z .current) p → CanTake es (z .current) p
       can-take (fits t l) =
           let b = m .begun .current in
-          record { group = b .group; places = b .places; tokens = b .tokens; content = b .has; next = means .walks (z .current .number) (b .has) (z .current .taken) (b .begins) .fits t .some l .next }
+          record { group = b .group; places = b .places; tokens = b .tokens; content = b .has; next = means .walks (z .current .element) (b .has) (z .current .taken) (b .begins) .fits t .some l .next }
       can-take (required l) =
           let b = m .begun .current in
-          record { group = b .group; places = b .places; tokens = b .tokens; content = b .has; next = means .walks (z .current .number) (b .has) (z .current .taken) (b .begins) .required .some l .next }
+          record { group = b .group; places = b .places; tokens = b .tokens; content = b .has; next = means .walks (z .current .element) (b .has) (z .current .taken) (b .begins) .required .some l .next }
 
 module _ {s : List ℕ} {es : List Element} {rows places facts M : List ℕ} (tables : Tables s es rows places facts M) where
   -- An element that has a model is opened in the current one.
-  pub moment-entered : {bits : List ℕ} {z : State} {o : Open} → Moment es M bits z o → (k : ℕ) → Declared es k → hasModel (contentOf es k) ≡ true → o .count < TAGLVL → Moment es M bits (enter k z) (opening rows k o)
+  pub moment-entered : {bits : List ℕ} {z : State} {o : OpenElements} → Moment es M bits z o → (k : ℕ) → Declared es k → hasModel (contentOf es k) ≡ true → o .count < TAGLVL → Moment es M bits (enter k z) (opening rows k o)
   moment-entered m k d h less =
       let means = accepted-decided s es (tables .accepted) in
       moment s es (tables .accepted) (ranged-opening rows k (m .ranged) less (omega (arith, d .1, tables .few))) (stands-opening (m .stands) tables k less (d .0) (d .1))
@@ -86,20 +86,20 @@ module _ {s : List ℕ} {es : List Element} {rows places facts M : List ℕ} (ta
 
   module _ (D : Decisions) (means : Means s es D) where
     -- The place is taken as which a token fits, or the one that is required.
-    module _ {bits : List ℕ} {z : State} {o : Open} (m : Moment es M bits z o) {p : ℕ} (c : Chosen s es D (z .current) p) where
+    module _ {bits : List ℕ} {z : State} {o : OpenElements} (m : Moment es M bits z o) {p : ℕ} (c : Chosen s es D (z .current) p) where
       can : CanTake es (z .current) p
       can = can-take s es (tables .accepted) m D means c
 
       pub place-small : p ≤ GRPGTCNT
       place-small = can-range tables (m .stands .current .entered) can .1
 
-      pub moment-took : {r : Open} {bits′ : List ℕ} → Taking rows M bits p o r bits′ → Moment es M bits′ (takePlace p z) r
+      pub moment-took : {r : OpenElements} {bits′ : List ℕ} → Taking rows M bits p o r bits′ → Moment es M bits′ (takePlace p z) r
       moment-took t =
           moment s es (tables .accepted) (ranged-taking t (m .ranged) place-small) (t .stands s es places facts tables z (m .stands) can)
           (begun-moves s es D D means means .taking (refl, m .begun) p c .1)
 
     -- The required place is taken, and the element that is named there opened.
-    pub moment-started : {bits bits′ : List ℕ} {z : State} {o q : Open} → Moment es M bits z o → (k : ℕ) → rules.inferable s es D (z .current) ≡ k → 1 ≤ k → o .count < TAGLVL → Starting rows M bits k o q bits′
+    pub moment-started : {bits bits′ : List ℕ} {z : State} {o q : OpenElements} → Moment es M bits z o → (k : ℕ) → rules.inferable s es D (z .current) ≡ k → 1 ≤ k → o .count < TAGLVL → Starting rows M bits k o q bits′
         → Moment es M bits′ (enter k (takePlace (requiredPlace s es D (z .current)) z)) q
     moment-started {bits} {bits′} {z} {o} m k e l less h =
         let i = inferable-may s es D (z .current) (rw e (le-leb 1 k l)) in
@@ -107,7 +107,7 @@ module _ {s : List ℕ} {es : List Element} {rows places facts M : List ℕ} (ta
         rw (h .opens) (moment-entered (moment-took m (required (i .place)) t) k (l, rw e at (i .declared)) (rw e at (i .model)) (omega (arith, t .count)))
 
     -- After an act in the rules, and whatever the methods make of it, there is a moment again.
-    pub moment-act : {z y : State} {o q : Open} {bits bits′ : List ℕ} → Moment es M bits z o → (a : Act s es D z y) → Few y → Does s es D rows M a o bits q bits′ → Moment es M bits′ y q
+    pub moment-act : {z y : State} {o q : OpenElements} {bits bits′ : List ℕ} → Moment es M bits z o → (a : Act s es D z y) → Few y → Does s es D rows M a o bits q bits′ → Moment es M bits′ y q
     moment-act m (starts k at after d f h) few (r, t, e) =
         rw e (moment-noted s es (tables .accepted) (moment-entered (moment-took m (fits (start k) f) t) k d h (omega (arith, m .many, t .count))) _)
     moment-act m (empties k at after d f h l) few t = moment-noted s es (tables .accepted) (moment-took m (fits (start k) f) t) _
@@ -117,7 +117,7 @@ module _ {s : List ℕ} {es : List Element} {rows places facts M : List ℕ} (ta
     moment-act m (ends u us at after e c) few (i, j) = rw (i, j) (moment-ended s es (tables .accepted) m u us _ e)
 
     -- The methods may be called for it.
-    pub moment-asks : {z y : State} {o : Open} {bits : List ℕ} → Moment es M bits z o → (a : Act s es D z y) → Few y → Asks s es D rows M a o
+    pub moment-asks : {z y : State} {o : OpenElements} {bits : List ℕ} → Moment es M bits z o → (a : Act s es D z y) → Few y → Asks s es D rows M a o
     moment-asks m (starts k at after d f h) few = (m .ranged, place-small m (fits (start k) f), omega (arith, m .many), omega (arith, d .1, tables .few))
     moment-asks m (empties k at after d f h l) few = (m .ranged, place-small m (fits (start k) f))
     moment-asks {z} m (infers k at e l) few = (m .ranged, omega (arith, m .many), omega (arith, rw e at (inferable-may s es D (z .current) (rw e (le-leb 1 k l)) .declared), tables .few))
@@ -126,11 +126,11 @@ module _ {s : List ℕ} {es : List Element} {rows places facts M : List ℕ} (ta
     moment-asks m (ends u us at after e c) few = (m .ranged, omega (arith, m .many, ap (λ (l : List rules.Open). length l) e))
 
     -- Wherever acts lead in the rules with at most 24 open, the methods lead beside.
-    acts-along : {z y : State} {o : Open} {bits : List ℕ} → Moment es M bits z o → (r : Acts s es D Few z y) → Along s es D rows M r o bits
+    acts-along : {z y : State} {o : OpenElements} {bits : List ℕ} → Moment es M bits z o → (r : Acts s es D Few z y) → Along s es D rows M r o bits
     acts-along m (act.still f) = m
     acts-along m (act.next f a r) = (m, moment-asks m a (acts-first r), λ v b does. acts-along (moment-act m a (acts-first r) does) r)
 
-    pub acts-beside : {z y : State} {o : Open} {bits : List ℕ} → Moment es M bits z o → Acts s es D Few z y → Beside s es D rows M z o bits y
+    pub acts-beside : {z y : State} {o : OpenElements} {bits : List ℕ} → Moment es M bits z o → Acts s es D Few z y → Beside s es D rows M z o bits y
     acts-beside m r = record { acts = r; moments = acts-along m r }
 
     -- The places taken begin walks wherever acts lead.

@@ -23,7 +23,7 @@ use Rattle.turn_laws.specs.Steps.{takeData-got}
 use Rattle.turn_laws.specs.Run.{run-taken}
 use Rattle.turn_laws.specs.Turns.{Reaches}
 use Rattle.type_tables.specs.Tables.{Tables}
-use Rattle.open_elements.specs.declared.Open.{Open}
+use Rattle.open_elements.specs.declared.OpenElements.{OpenElements}
 use Rattle.open_elements.specs.declared.Outcome.{Outcome}
 use Rattle.open_elements.specs.Stands.{fresh, Ranged, Stands}
 use Rattle.open_elements.specs.Becomes.{StandsWith, was-got}
@@ -57,17 +57,17 @@ module _ {s : List ℕ} {es : List Element} {rows places facts M : List ℕ} (ta
   means : Means s es D
   means = accepted-decided s es (tables .accepted)
 
-  pub leads : {z y : State} {o : Open} {bits : List ℕ} → Moment es M bits z o → Acts s es D Few z y → {r : Open} {bits′ : List ℕ} → Ranged r → Stands es M bits′ r y → Leads s es D rows M z o bits y r bits′
+  pub leads : {z y : State} {o : OpenElements} {bits : List ℕ} → Moment es M bits z o → Acts s es D Few z y → {r : OpenElements} {bits′ : List ℕ} → Ranged r → Stands es M bits′ r y → Leads s es D rows M z o bits y r bits′
   leads m a g h =
       let begun = acts-begun tables D means (m .begun) a in
       record { beside = acts-beside tables D means m a; alike = λ q other n. stands-alike begun h (n .stands); there = moment s es (tables .accepted) g h begun }
 
   -- Between tokens: reading has come to `at` (`Reaches`, `Stands` and `Ranged`: what the loop over a document's tokens keeps). All moments before were
   -- passed by acts, from nothing open on.
-  pub reaches-leads : (first : List ℕ) {c : Settings} {d : List ℕ} {at : ℕ} {l : Line} {o : Open} {bits : List ℕ} {z : State} → Ranged o → Stands es M bits o z → Reaches c s es d at l z → Leads s es D rows M nothingOpen fresh first z o bits
+  pub reaches-leads : (first : List ℕ) {c : Settings} {d : List ℕ} {at : ℕ} {l : Line} {o : OpenElements} {bits : List ℕ} {z : State} → Ranged o → Stands es M bits o z → Reaches c s es d at l z → Leads s es D rows M nothingOpen fresh first z o bits
   reaches-leads first {d = d} g h r = leads (moment-first s es (tables .accepted)) (passes-acts s es D d (r .passes)) g h
 
-  module _ {lists marks : List ℕ} {x at after n : ℕ} {o : Open} {bits : List ℕ} {ends : List Event} {numbers bytes : List ℕ} {r : Outcome} {bits′ numbers′ bytes′ : List ℕ} (h : Settles rows places facts M lists marks x at after o bits ends n numbers bytes r bits′ numbers′ bytes′) where
+  module _ {lists marks : List ℕ} {x at after n : ℕ} {o : OpenElements} {bits : List ℕ} {ends : List Event} {numbers bytes : List ℕ} {r : Outcome} {bits′ numbers′ bytes′ : List ℕ} (h : Settles rows places facts M lists marks x at after o bits ends n numbers bytes r bits′ numbers′ bytes′) where
     -- What has become of the token, where it is not refused.
     abbrev noted : State → List Event
     noted z = ((z .events ++ ends) ++ h .starts) ++ writtenOf x (h .opens) (h .taken) at after
@@ -93,7 +93,7 @@ module _ {s : List ℕ} {es : List Element} {rows places facts M : List ℕ} (ta
         (withDatum at y, i, leads m (got-so (takeData-acts s es D at z (omega (arith, m .many, m .ranged .few))) i) (h .ranged) stands)
 
   -- The same by the steps of the token in order, as the program takes them.
-  module _ {lists marks : List ℕ} {x at after n : ℕ} {o : Open} {bits numbers bytes : List ℕ} {q : Open} {bits′ numbers′ bytes′ : List ℕ} (h : Steps rows places facts M lists marks x at after n o bits numbers bytes q bits′ numbers′ bytes′) where
+  module _ {lists marks : List ℕ} {x at after n : ℕ} {o : OpenElements} {bits numbers bytes : List ℕ} {q : OpenElements} {bits′ numbers′ bytes′ : List ℕ} (h : Steps rows places facts M lists marks x at after n o bits numbers bytes q bits′ numbers′ bytes′) where
     pub steps-lead : 1 ≤ x → x ≤ length es → (z : State) → Moment es M bits z o → (y : State) × (startElement s es D x at after z ≡ got y) × Leads s es D rows M z o bits y q bits′
     steps-lead some most z m = settles-leads (steps-settle (m .ranged) (omega (arith, tables .few)) h) some most (h .fine) z m
 
@@ -101,7 +101,7 @@ module _ {s : List ℕ} {es : List Element} {rows places facts M : List ℕ} (ta
     steps-data nothing z m = data-leads (steps-settle (m .ranged) (omega arith) h) nothing (h .fine) z m
 
   -- An end tag (`end_tag` of closing): the ends that it infers, then itself.
-  pub tagged-leads : {x at after n : ℕ} {o : Open} {numbers bytes : List ℕ} {r : Outcome} {numbers′ bytes′ : List ℕ} → Tagged facts x at after n o numbers bytes r numbers′ bytes′ → r .number ≡ 0 → {bits : List ℕ} (z : State) → Moment es M bits z o
+  pub tagged-leads : {x at after n : ℕ} {o : OpenElements} {numbers bytes : List ℕ} {r : Outcome} {numbers′ bytes′ : List ℕ} → Tagged facts x at after n o numbers bytes r numbers′ bytes′ → r .number ≡ 0 → {bits : List ℕ} (z : State) → Moment es M bits z o
       → (y : State) × (endElement s es D x at after z ≡ got y) × Leads s es D rows M z o bits y (r .open) bits
   tagged-leads {x} {at} {after} {r = r} h done {bits} z m =
       let (y, e, came) = was-got at (StandsWith es M bits (r .open) (z .events ++ h .brings .events)) (endElement s es D x at after z) (h .closes s es (tables .raised) (tables .facts-say) M bits z (m .stands)) done in

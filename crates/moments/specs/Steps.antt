@@ -26,7 +26,7 @@ use Rattle.document_laws.specs.OneReading.{accepted-decided}
 use Rattle.document_laws.specs.Chain.{chain-leads}
 use Rattle.document_laws.specs.Moves.{state, withDatum, fits}
 use Rattle.type_tables.specs.Tables.{Tables, CanTake}
-use Rattle.open_elements.specs.declared.Open.{Open}
+use Rattle.open_elements.specs.declared.OpenElements.{OpenElements}
 use Rattle.open_elements.specs.declared.Outcome.{Outcome}
 use Rattle.open_elements.specs.Stands.{Taking, Starting}
 use Rattle.open_elements.specs.Becomes.{StandsWith, was-got}
@@ -49,9 +49,9 @@ use Rattle.moments.specs.Moment.{Moment, Beside, Leads}
 use Rattle.moments.specs.Beside.{can-take, moment-took, moment-act, acts-beside}
 use Rattle.moments.specs.Results.{leads}
 
-may-end-so : (s : List ℕ) (es : List Element) (D : Decisions) (o : rules.Open) (us : List rules.Open) → mayEnd s es D o us ≡ true → (isComplete s es D o ≡ true) × (endO es (o .number) ≡ true)
+may-end-so : (s : List ℕ) (es : List Element) (D : Decisions) (o : rules.Open) (us : List rules.Open) → mayEnd s es D o us ≡ true → (isComplete s es D o ≡ true) × (endO es (o .element) ≡ true)
 may-end-so s es D o [] e = absurd (false≢true e)
-may-end-so s es D o (u ∷ us) e = (and-left (isComplete s es D o) _ e, and-left (endO es (o .number)) _ (and-right (isComplete s es D o) _ e))
+may-end-so s es D o (u ∷ us) e = (and-left (isComplete s es D o) _ e, and-left (endO es (o .element)) _ (and-right (isComplete s es D o) _ e))
 
 module _ (s : List ℕ) (es : List Element) where
   abbrev D : Decisions
@@ -62,7 +62,7 @@ module _ (s : List ℕ) (es : List Element) where
   unfolding inferEnds
   ends-acts x at [] o ev f = reads (act.still {z = state o [] ev} f)
   ends-acts x at (u ∷ around) o ev f =
-      either (eqb (o .number) x) (λ e. reads (act.still {z = state o (u ∷ around) ev} f))
+      either (eqb (o .element) x) (λ e. reads (act.still {z = state o (u ∷ around) ev} f))
       (λ e. on (leftOut s es D at o) λ i l.
       so (ends-acts x at around u (ev ++ i ∷ []) (omega arith)) (λ n j q. q)
       (λ y r. act.next {z = state o (u ∷ around) ev} f (infers-end u around at refl (l .1) (l .2)) (subst (λ (k : Event). Acts s es D Few (state u around (ev ++ k ∷ [])) y) (l .0) r)))
@@ -101,13 +101,13 @@ not-none (suc n) h = omega arith
 -- The functions
 
 module _ {s : List ℕ} {es : List Element} {rows places facts M : List ℕ} (tables : Tables s es rows places facts M) where
-  moment-small : {bits : List ℕ} {z : State} {o : Open} → Moment es M bits z o → Few z
+  moment-small : {bits : List ℕ} {z : State} {o : OpenElements} → Moment es M bits z o → Few z
   moment-small m = omega (arith, m .many, m .ranged .few)
 
   -- What `ends` of inferring gives where it stops: acts lead to its open elements, though the token may still be refused there, and what it found is what the
   -- rules say of the token there. Where it is not stuck, so many starts can be inferred one in the other, and the token fits in the last; a place that was
   -- found is the one as which the token fits.
-  pub stops-lead : {bits : List ℕ} {x at n : ℕ} {o : Open} {numbers bytes : List ℕ} {r : Stop} {numbers′ bytes′ : List ℕ}
+  pub stops-lead : {bits : List ℕ} {x at n : ℕ} {o : OpenElements} {numbers bytes : List ℕ} {r : Stop} {numbers′ bytes′ : List ℕ}
       → Stops rows places facts M bits x at n o numbers bytes r numbers′ bytes′ → x ≤ length es → (z : State) → Moment es M bits z o
       → (y : State) × Leads s es (D s es) rows M z o bits y (r .open) bits
       × ((r .found ≡ Stuck → ⊥) → Infers s es (D s es) (tokenOf x) (startsOf (r .found)) (y .current))
@@ -126,7 +126,7 @@ module _ {s : List ℕ} {es : List Element} {rows places facts M : List ℕ} (ta
       )
 
   -- One start that is inferred (`infer_start` of inferring) is one act, where there is one to infer.
-  pub infers-start-does : {bits : List ℕ} {at n : ℕ} {o : Open} {numbers bytes : List ℕ} {r : Open} {bits′ numbers′ bytes′ : List ℕ}
+  pub infers-start-does : {bits : List ℕ} {at n : ℕ} {o : OpenElements} {numbers bytes : List ℕ} {r : OpenElements} {bits′ numbers′ bytes′ : List ℕ}
       → InfersStart rows places facts M bits at n o numbers bytes r bits′ numbers′ bytes′ → o .count < TAGLVL → (z : State) → Moment es M bits z o → 1 ≤ inferable s es (D s es) (z .current)
       → Act s es (D s es) z (inferOne s es (D s es) at z) × Moment es M bits′ (inferOne s es (D s es) at z) r
   infers-start-does {bits} {at} {o = o} {r = r} {bits′} h less z m some =
@@ -136,7 +136,7 @@ module _ {s : List ℕ} {es : List Element} {rows places facts M : List ℕ} (ta
 
   -- The place of a token (`placed` of placing) that is not refused there. What was found is the place as which the token fits, or starts that were inferred, so
   -- that nothing is taken yet in the current element.
-  module _ {bits : List ℕ} (x : ℕ) {found : Way} {at after n : ℕ} {o : Open} {numbers bytes : List ℕ} {r : Outcome} {bits′ numbers′ bytes′ : List ℕ}
+  module _ {bits : List ℕ} (x : ℕ) {found : Way} {at after n : ℕ} {o : OpenElements} {numbers bytes : List ℕ} {r : Outcome} {bits′ numbers′ bytes′ : List ℕ}
       (h : Placed rows places facts M bits found x at after n o numbers bytes r bits′ numbers′ bytes′) (most : x ≤ length es) (fine : r .number ≡ 0) (z : State) (m : Moment es M bits z o)
       (right : (p : Place) → found ≡ Taken p → p .0 ≡ fitting s es (D s es) (z .current) (tokenOf x)) (new : (n : ℕ) → found ≡ Inferred n → z .current .taken ≡ []) where
     some-place : h .p ≡ 0 → ⊥
@@ -155,7 +155,7 @@ module _ {s : List ℕ} {es : List Element} {rows places facts M : List ℕ} (ta
     placed-moment = moment-took tables (D s es) (accepted-decided s es (tables .accepted)) m (fits (tokenOf x) fits-some) (subst (λ (p : ℕ). Taking rows M bits p o (r .open) bits′) place-fits (h .taking fine))
 
     -- What is noted is what the rules note, once an element with a model is open.
-    module _ (b : Bool) (none : x ≡ 0 → b ≡ false) (model : (x ≡ 0 → ⊥) → hasModel (contentOf es x) ≡ b) {q : Open} (opened : q ≡ openedBy rows x b (r .open)) where
+    module _ (b : Bool) (none : x ≡ 0 → b ≡ false) (model : (x ≡ 0 → ⊥) → hasModel (contentOf es x) ≡ b) {q : OpenElements} (opened : q ≡ openedBy rows x b (r .open)) where
       abbrev written : List Event
       written = writtenOf x (h .opens) (h .taken) at after
 
@@ -166,8 +166,8 @@ module _ {s : List ℕ} {es : List Element} {rows places facts M : List ℕ} (ta
 
   -- That of a start tag: one act, which opens its element or, of an EMPTY one, leaves what is open. The element is opened after `placed` (`start` of
   -- open_elements), where it has a model.
-  pub places-leads : {bits : List ℕ} (x : ℕ) {found : Way} {at after n : ℕ} {o : Open} {numbers bytes : List ℕ} {r : Outcome} {bits′ numbers′ bytes′ : List ℕ}
-      → Placed rows places facts M bits found x at after n o numbers bytes r bits′ numbers′ bytes′ → {q : Open} → q ≡ openedBy rows x (hasModel (contentOf es x)) (r .open)
+  pub places-leads : {bits : List ℕ} (x : ℕ) {found : Way} {at after n : ℕ} {o : OpenElements} {numbers bytes : List ℕ} {r : Outcome} {bits′ numbers′ bytes′ : List ℕ}
+      → Placed rows places facts M bits found x at after n o numbers bytes r bits′ numbers′ bytes′ → {q : OpenElements} → q ≡ openedBy rows x (hasModel (contentOf es x)) (r .open)
       → 1 ≤ x → x ≤ length es → r .number ≡ 0 → (z : State) → Moment es M bits z o
       → ((p : Place) → found ≡ Taken p → p .0 ≡ fitting s es (D s es) (z .current) (tokenOf x)) → ((n : ℕ) → found ≡ Inferred n → z .current .taken ≡ [])
       → (y : State) × (noting es x at after (takeToken s es (D s es) (tokenOf x) z) ≡ got y) × Leads s es (D s es) rows M z o bits y q bits′
@@ -185,7 +185,7 @@ module _ {s : List ℕ} {es : List Element} {rows places facts M : List ℕ} (ta
       )
 
   -- That of a run of data: one act, of its first byte. Each further byte takes the same place again, which leaves the program's open elements as they are.
-  pub places-data : {bits : List ℕ} (x : ℕ) {found : Way} {at after n : ℕ} {o : Open} {numbers bytes : List ℕ} {r : Outcome} {bits′ numbers′ bytes′ : List ℕ}
+  pub places-data : {bits : List ℕ} (x : ℕ) {found : Way} {at after n : ℕ} {o : OpenElements} {numbers bytes : List ℕ} {r : Outcome} {bits′ numbers′ bytes′ : List ℕ}
       → Placed rows places facts M bits found x at after n o numbers bytes r bits′ numbers′ bytes′ → x ≡ 0 → r .number ≡ 0 → (z : State) → Moment es M bits z o
       → ((p : Place) → found ≡ Taken p → p .0 ≡ fitting s es (D s es) (z .current) (tokenOf x)) → ((n : ℕ) → found ≡ Inferred n → z .current .taken ≡ [])
       → Leads s es (D s es) rows M z o bits (withDatum at (takeToken s es (D s es) pcdata z)) (r .open) bits′
@@ -197,7 +197,7 @@ module _ {s : List ℕ} {es : List Element} {rows places facts M : List ℕ} (ta
       leads tables m (act.next few byte (act.still few)) (h .ranged) (stands-noted (there .stands) (withData at (z .events)))
 
   -- The ends that are inferred until the current element is x, or nothing is around it (`end_until` of left_out_ends).
-  pub until-leads : {x at n : ℕ} {o : Open} {numbers bytes : List ℕ} {r : Outcome} {numbers′ bytes′ : List ℕ} → Until facts x at n o numbers bytes r numbers′ bytes′ → r .number ≡ 0 → {bits : List ℕ} (z : State) → Moment es M bits z o
+  pub until-leads : {x at n : ℕ} {o : OpenElements} {numbers bytes : List ℕ} {r : Outcome} {numbers′ bytes′ : List ℕ} → Until facts x at n o numbers bytes r numbers′ bytes′ → r .number ≡ 0 → {bits : List ℕ} (z : State) → Moment es M bits z o
       → (y : State) × (inferEnds s es (D s es) x at (z .around) (z .current) (z .events) ≡ got y) × Leads s es (D s es) rows M z o bits y (r .open) bits
   until-leads {x} {at} {r = r} h fine {bits} z m =
       let (y, e, came) = was-got at (StandsWith es M bits (r .open) (z .events ++ h .brings .events)) (inferredFrom s es (D s es) x at z) (h .ends s es (tables .raised) (tables .facts-say) M bits z (m .stands)) fine in
@@ -205,7 +205,7 @@ module _ {s : List ℕ} {es : List Element} {rows places facts M : List ℕ} (ta
 
   -- The document's end (`finish` of closing), where it is not refused: the ends that it infers lead to where nothing is open, with the events that it brings.
   -- The state that it gives is not decided: nobody reads it.
-  pub finished-beside : {at n : ℕ} {o : Open} {numbers bytes : List ℕ} {r : Outcome} {numbers′ bytes′ : List ℕ} (h : Finished facts at n o numbers bytes r numbers′ bytes′) → r .number ≡ 0 → {bits : List ℕ} (z : State) → Moment es M bits z o
+  pub finished-beside : {at n : ℕ} {o : OpenElements} {numbers bytes : List ℕ} {r : Outcome} {numbers′ bytes′ : List ℕ} (h : Finished facts at n o numbers bytes r numbers′ bytes′) → r .number ≡ 0 → {bits : List ℕ} (z : State) → Moment es M bits z o
       → (y : State) × Beside s es (D s es) rows M z o bits y × (y .around ≡ []) × (isComplete s es (D s es) (y .current) ≡ true) × (y .events ≡ z .events ++ h .brings .events)
   finished-beside {at} h fine {bits} z m =
       let (ev, e, are) = was-got at (λ (x : List Event). x ≡ z .events ++ h .brings .events) (endDocument s es (D s es) at z) (h .ends s es (tables .raised) (tables .facts-say) M bits z (m .stands)) fine in

@@ -7,11 +7,11 @@ use Rattle.rules.specs.Reading.{Reading, refused, got}
 use Rattle.rules.specs.TypeFile.{Element}
 use Rattle.rules.specs.Events.{Event}
 use Rattle.rules.specs.Settling.{State}
-use Rattle.open_elements.specs.declared.Open.{Open}
+use Rattle.open_elements.specs.declared.OpenElements.{OpenElements}
 use Rattle.open_elements.specs.Stands.{Becomes, Stands}
 
 -- The open elements stand for a state that has these events.
-abbrev pub StandsWith : List Element → (M begun : List ℕ) → Open → List Event → State → Type 0
+abbrev pub StandsWith : List Element → (M begun : List ℕ) → OpenElements → List Event → State → Type 0
 StandsWith es M begun o ev y = Stands es M begun o y × (y .events ≡ ev)
 
 module _ {A : Type 0} (at : ℕ) {n : ℕ} (P : A → Type 0) where

@@ -26,18 +26,18 @@ use Rattle.type_tables.specs.Tables.{completeAt, requiredAt, Declares, Tables}
 use Rattle.type_tables.specs.Ranges.{required-small}
 use Rattle.type_tables.specs.Marks.{entered-elsewhere, entered-fresh, fresh-complete, fresh-required}
 use Rattle.open_elements.specs.declared.Entry.{Entry}
-use Rattle.open_elements.specs.declared.Open.{Open}
+use Rattle.open_elements.specs.declared.OpenElements.{OpenElements}
 use Rattle.open_elements.specs.Stands.{none, fresh, covered, opening, parentOf, ended, aroundOf, bare, Within, Ranged, Kept, AllKept, Stands, Marking, Taking}
 use Rattle.rules.specs.Decisions.{start}
 
 -- What was read of the rows makes the state that `opening` gives.
-pub opening-by : (rows : List ℕ) (k : ElementNo) (o : Open) {x : Entry} {c : Bool} {q : Place} → x ≡ covered o → c ≡ completeAt rows (k .0) 0 → q .0 ≡ requiredAt rows (k .0) 0
+pub opening-by : (rows : List ℕ) (k : ElementNo) (o : OpenElements) {x : Entry} {c : Bool} {q : Place} → x ≡ covered o → c ≡ completeAt rows (k .0) 0 → q .0 ≡ requiredAt rows (k .0) 0
     → record { around = set (o .around) (o .count) x; count = o .count + 1; element = k; place = placeNo 0; complete = c; required = q } ≡ opening rows (k .0) o
 opening-by rows k o e h l =
     λ i. record { around = set (o .around) (o .count) (e i); count = o .count + 1; element = k; place = placeNo 0; complete = h i; required = placeNo (l i) }
 
 -- The parent's element, place and required place, as they were read, make the state that `ended` gives.
-pub ended-by : (o : Open) {e : ElementNo} {p q : Place} → e .0 ≡ parentOf o .element → p .0 ≡ parentOf o .place → q .0 ≡ parentOf o .required
+pub ended-by : (o : OpenElements) {e : ElementNo} {p q : Place} → e .0 ≡ parentOf o .element → p .0 ≡ parentOf o .place → q .0 ≡ parentOf o .required
     → record { around = o .around; count = o .count - 1; element = e; place = p; complete = parentOf o .complete; required = q } ≡ ended o
 ended-by o h k l =
     λ i. record { around = o .around; count = o .count - 1; element = elementNo (h i); place = placeNo (k i); complete = parentOf o .complete; required = placeNo (l i) }
@@ -52,19 +52,19 @@ shown-other k p n = rw (ne-eqb k 0 n, shown)
 
 -- Whether an element is open
 
-pub open-here : (x : ℕ) (o : rules.Open) (os : List rules.Open) → o .number ≡ x → isOpen x (o ∷ os) ≡ true
+pub open-here : (x : ℕ) (o : rules.Open) (os : List rules.Open) → o .element ≡ x → isOpen x (o ∷ os) ≡ true
 unfolding isOpen
-open-here x o os e = rw (eq-eqb (o .number) x e, isOpen)
+open-here x o os e = rw (eq-eqb (o .element) x e, isOpen)
 
-pub open-past : (x : ℕ) (o : rules.Open) (os : List rules.Open) → (o .number ≡ x → ⊥) → isOpen x (o ∷ os) ≡ isOpen x os
+pub open-past : (x : ℕ) (o : rules.Open) (os : List rules.Open) → (o .element ≡ x → ⊥) → isOpen x (o ∷ os) ≡ isOpen x os
 unfolding isOpen
-open-past x o os n = rw (ne-eqb (o .number) x n, isOpen)
+open-past x o os n = rw (ne-eqb (o .element) x n, isOpen)
 
 pub open-none : (x : ℕ) → isOpen x [] ≡ false
 unfolding isOpen
 open-none x = refl
 
-open-same : (x : ℕ) (o u : rules.Open) (os us : List rules.Open) → o .number ≡ u .number → isOpen x os ≡ isOpen x us → isOpen x (o ∷ os) ≡ isOpen x (u ∷ us)
+open-same : (x : ℕ) (o u : rules.Open) (os us : List rules.Open) → o .element ≡ u .element → isOpen x os ≡ isOpen x us → isOpen x (o ∷ os) ≡ isOpen x (u ∷ us)
 unfolding isOpen
 open-same x o u os us e i = ap₂ {C = Bool} (λ n b. elim (eqb n x) [ true ↦ true | false ↦ b ]) e i
 
@@ -126,14 +126,14 @@ module _ (es : List Element) (M begun : List ℕ) (a : List Entry) where
       )
 
 -- Where one is open, the current one has a parent, which is the current one when that has ended.
-pub record Around (es : List Element) (M begun : List ℕ) (o : Open) (z : State) : Type 0 where
+pub record Around (es : List Element) (M begun : List ℕ) (o : OpenElements) (z : State) : Type 0 where
   pub parent : rules.Open
   pub others : List rules.Open
   pub are : z .around ≡ parent ∷ others
-  pub number : parent .number ≡ ended o .element .0
+  pub number : parent .element ≡ ended o .element .0
   pub stands : (ev : List Event) → Stands es M begun (ended o) (state parent others ev)
 
-module _ {es : List Element} {M begun : List ℕ} {o : Open} {z : State} (h : Stands es M begun o z) where
+module _ {es : List Element} {M begun : List ℕ} {o : OpenElements} {z : State} (h : Stands es M begun o z) where
   pub stands-open : (x : ℕ) → isOpen x (bare o) ≡ isOpen x (z .current ∷ z .around)
   stands-open x = open-same x (moves.fresh (o .element .0)) (z .current) (aroundOf (o .around) (o .count)) (z .around) (sym (h .current .entered .number)) (all-open es M begun (o .around) x (o .count) (z .around) (h .around))
 
@@ -200,7 +200,7 @@ module _ {es : List Element} {M begun : List ℕ} {o : Open} {z : State} (h : St
       }
 
 -- The place is taken where its marks are made: the elements around have their bits at other levels.
-pub taking-by : {rows M before after : List ℕ} (o : Open) {p : Place} {c : Bool} {q : Place} → Marking rows M before (o .count) (o .element .0) (o .place .0) (p .0) after c (q .0)
+pub taking-by : {rows M before after : List ℕ} (o : OpenElements) {p : Place} {c : Bool} {q : Place} → Marking rows M before (o .count) (o .element .0) (o .place .0) (p .0) after c (q .0)
     → Taking rows M before (p .0) o (record { around = o .around; count = o .count; element = o .element; place = p; complete = c; required = q }) after
 taking-by {M = M} {before = before} {after = after} o m =
     record {
@@ -245,7 +245,7 @@ ranged-fresh =
       kept = λ k l. absurd (omega arith);
     }
 
-pub ranged-taking : {rows M before after : List ℕ} {p : ℕ} {o r : Open} → Taking rows M before p o r after → Ranged o → p ≤ GRPGTCNT → Ranged r
+pub ranged-taking : {rows M before after : List ℕ} {p : ℕ} {o r : OpenElements} → Taking rows M before p o r after → Ranged o → p ≤ GRPGTCNT → Ranged r
 ranged-taking t h l =
     record {
       whole = rw (t .around) (h .whole);
@@ -264,7 +264,7 @@ within-set a n x l m h k i = by-place (ℕ-discrete k n)
     by-place (yes e) = rw (e, getD-set-same a n x none l) m
     by-place (no e) = rw (getD-set-other a n k x none e) (h k (omega arith))
 
-pub ranged-opening : (rows : List ℕ) (k : ℕ) {o : Open} → Ranged o → o .count < TAGLVL → k ≤ elementLimit → Ranged (opening rows k o)
+pub ranged-opening : (rows : List ℕ) (k : ℕ) {o : OpenElements} → Ranged o → o .count < TAGLVL → k ≤ elementLimit → Ranged (opening rows k o)
 ranged-opening rows k {o} h l few =
     record {
       whole = simp length-set (h .whole);
@@ -276,7 +276,7 @@ ranged-opening rows k {o} h l few =
           within-set (o .around) (o .count) (covered o) (omega (arith, h .whole)) record { element = h .element; place = h .place; required = h .required } (h .kept);
     }
 
-pub ranged-ended : {o : Open} → Ranged o → 1 ≤ o .count → Ranged (ended o)
+pub ranged-ended : {o : OpenElements} → Ranged o → 1 ≤ o .count → Ranged (ended o)
 ranged-ended {o} h l =
     let parent = h .kept (o .count - 1) (omega arith) in
     record {

@@ -18,7 +18,7 @@ use Rattle.type_tables.specs.Tables.{completeAt, requiredAt, Tables, Entered, C
 use Rattle.type_tables.specs.Marks.{taking}
 use Rattle.and_groups.specs.Takes.{Elsewhere, FREE}
 use Rattle.open_elements.specs.declared.Entry.{Entry}
-use Rattle.open_elements.specs.declared.Open.{Open}
+use Rattle.open_elements.specs.declared.OpenElements.{OpenElements}
 
 -- What the methods do
 
@@ -29,14 +29,14 @@ entry e p c q = record { element = e; place = p; complete = c; required = q }
 abbrev pub none : Entry
 none = entry 0 0 false 0
 
-abbrev pub fresh : Open
+abbrev pub fresh : OpenElements
 fresh = record { around = replicate TAGLVL none; count = 0; element = elementNo 0; place = placeNo 0; complete = false; required = placeNo 1 }
 
 -- What is kept of the current element where another is opened in it.
-abbrev pub covered : Open → Entry
+abbrev pub covered : OpenElements → Entry
 covered o = entry (o .element .0) (o .place .0) (o .complete) (o .required .0)
 
-abbrev pub opening : (rows : List ℕ) → ℕ → Open → Open
+abbrev pub opening : (rows : List ℕ) → ℕ → OpenElements → OpenElements
 opening rows k o =
     record {
       around = set (o .around) (o .count) (covered o);
@@ -48,11 +48,11 @@ opening rows k o =
     }
 
 -- The innermost of those around the current element.
-abbrev pub parentOf : Open → Entry
+abbrev pub parentOf : OpenElements → Entry
 parentOf o = getD (o .around) (o .count - 1) none
 
 -- The parent is the current element again, as it was kept.
-abbrev pub ended : Open → Open
+abbrev pub ended : OpenElements → OpenElements
 ended o =
     record {
       around = o .around;
@@ -68,7 +68,7 @@ abbrev pub aroundOf : List Entry → ℕ → List rules.Open
 aroundOf a zero = []
 aroundOf a (suc n) = moves.fresh (getD a n none .element) ∷ aroundOf a n
 
-abbrev pub bare : Open → List rules.Open
+abbrev pub bare : OpenElements → List rules.Open
 bare o = moves.fresh (o .element .0) ∷ aroundOf (o .around) (o .count)
 
 -- What has become of a token at `at`: it is refused by this number, or the number is 0 and P holds of what was read.
@@ -85,7 +85,7 @@ pub record Within (x : Entry) : Type 0 where
   pub required : x .required ≤ GRPGTCNT
 
 -- At most 24 are open, for which the array has room, and all their numbers are such.
-pub record Ranged (o : Open) : Type 0 where
+pub record Ranged (o : OpenElements) : Type 0 where
   pub whole : length (o .around) ≡ TAGLVL
   pub few : o .count ≤ TAGLVL
   pub element : o .element .0 ≤ elementLimit
@@ -113,13 +113,13 @@ AllKept es M begun a (suc n) (o ∷ os) = Kept es M begun n (getD a n none) o ×
 
 -- The open elements of the code, with the bits of what has begun, stand for the state z of the rules, which has all places taken. At most 24 are open, and the
 -- array has room for as many.
-pub record Stands (es : List Element) (M begun : List ℕ) (o : Open) (z : State) : Type 0 where
+pub record Stands (es : List Element) (M begun : List ℕ) (o : OpenElements) (z : State) : Type 0 where
   pub whole : length (o .around) ≡ TAGLVL
   pub few : o .count ≤ TAGLVL
   pub current : Kept es M begun (o .count) (covered o) (z .current)
   pub around : AllKept es M begun (o .around) (o .count) (z .around)
 
--- The marks that are left of those of a row, by what the groups around the place answer: 255 where none lacks a member.
+-- The marks that are left of those of a row, by what the groups around the place answer: `FREE` where none lacks a member.
 pub record Weighs (m : ℕ) (row : Bool) (kept : ℕ) (complete : Bool) (required : ℕ) : Type 0 where
   pub held : (m ≡ FREE → ⊥) → (complete ≡ false) × (required ≡ m)
   pub free : m ≡ FREE → (complete ≡ row) × (required ≤ GRPGTCNT) × (GRPGTCNT < kept → kept ≤ RAISE + GRPGTCNT → required ≡ kept - RAISE)
@@ -135,7 +135,7 @@ pub record Marking (rows M before : List ℕ) (level e u p : ℕ) (after : List 
 
 -- The place p is taken in the current element: the state is as it was but for the place and its marks, and the bits but for those of this level. By the
 -- tables of a type it then stands for the rules' state with this place taken.
-pub record Taking (rows M before : List ℕ) (p : ℕ) (o r : Open) (after : List ℕ) : Type 0 where
+pub record Taking (rows M before : List ℕ) (p : ℕ) (o r : OpenElements) (after : List ℕ) : Type 0 where
   pub around : r .around ≡ o .around
   pub count : r .count ≡ o .count
   pub element : r .element ≡ o .element
@@ -146,7 +146,7 @@ pub record Taking (rows M before : List ℕ) (p : ℕ) (o r : Open) (after : Lis
   pub stands : (s : List ℕ) (es : List Element) (places facts : List ℕ) → Tables s es rows places facts M → (z : State) → Stands es M before o z → CanTake es (z .current) p → Stands es M after r (takePlace p z)
 
 -- The required place is taken, and the element k opened there.
-pub record Starting (rows M before : List ℕ) (k : ℕ) (o r : Open) (after : List ℕ) : Type 0 where
-  pub taken : Open
+pub record Starting (rows M before : List ℕ) (k : ℕ) (o r : OpenElements) (after : List ℕ) : Type 0 where
+  pub taken : OpenElements
   pub taking : Taking rows M before (o .required .0) o taken after
   pub opens : r ≡ opening rows k taken

@@ -26,9 +26,9 @@ use Rattle.open_elements.specs.Stands.{Weighs, Marking}
 module _ {s : List ℕ} {es : List Element} {rows places facts M begun : List ℕ} {level e u : ℕ} {o : rules.Open} (tables : Tables s es rows places facts M) (h : Entered es M begun level e u o) where
   pub can-fit : (t : Token) → 1 ≤ rules.fitting s es (decided s es) o t → CanTake es o (rules.fitting s es (decided s es) o t)
   unfolding fitsIn
-  can-fit t l = by-content (contentOf es (o .number)) refl
+  can-fit t l = by-content (contentOf es (o .element)) refl
     where
-      by-content : (c : Content) → contentOf es (o .number) ≡ c → CanTake es o (rules.fitting s es (decided s es) o t)
+      by-content : (c : Content) → contentOf es (o .element) ≡ c → CanTake es o (rules.fitting s es (decided s es) o t)
       by-content empty i = absurd (omega (arith, rw (i, fitsIn) at l))
       by-content (model g ps n) i =
           record {
@@ -36,14 +36,14 @@ module _ {s : List ℕ} {es : List Element} {rows places facts M begun : List �
             places = ps;
             tokens = n;
             content = i;
-            next = accepted-decided s es (tables .accepted) .walks (o .number) i (o .taken) (h .begins (rw (h .number) at i)) .fits t .some l .next;
+            next = accepted-decided s es (tables .accepted) .walks (o .element) i (o .taken) (h .begins (rw (h .number) at i)) .fits t .some l .next;
           }
 
   pub can-require : 1 ≤ rules.requiredPlace s es (decided s es) o → CanTake es o (rules.requiredPlace s es (decided s es) o)
   unfolding requiredFor
-  can-require l = by-content (contentOf es (o .number)) refl
+  can-require l = by-content (contentOf es (o .element)) refl
     where
-      by-content : (c : Content) → contentOf es (o .number) ≡ c → CanTake es o (rules.requiredPlace s es (decided s es) o)
+      by-content : (c : Content) → contentOf es (o .element) ≡ c → CanTake es o (rules.requiredPlace s es (decided s es) o)
       by-content empty i = absurd (omega (arith, rw (i, requiredFor) at l))
       by-content (model g ps n) i =
           record {
@@ -51,7 +51,7 @@ module _ {s : List ℕ} {es : List Element} {rows places facts M begun : List �
             places = ps;
             tokens = n;
             content = i;
-            next = accepted-decided s es (tables .accepted) .walks (o .number) i (o .taken) (h .begins (rw (h .number) at i)) .required .some l .next;
+            next = accepted-decided s es (tables .accepted) .walks (o .element) i (o .taken) (h .begins (rw (h .number) at i)) .required .some l .next;
           }
 
 -- The marks

@@ -29,7 +29,7 @@ pub struct Entry {
 // nothing is open the current element is the document itself (element 0).
 //
 // A method that reaches into the array copies it to a local and puts it back: so it stays in one place.
-pub struct Open {
+pub struct OpenElements {
     pub around: [Entry; TAGLVL],
     pub count: usize,
     pub element: ElementNo,
@@ -40,7 +40,7 @@ pub struct Open {
 
 // What a token brought, beside the state: how many events there are now in all, and the refusal number or 0.
 pub struct Outcome {
-    pub open: Open,
+    pub open: OpenElements,
     pub events: usize,
     pub number: u32,
 }
@@ -82,7 +82,7 @@ fn weighed(m: usize, complete: bool, kept: usize) -> Marks
     }
 }
 
-// The place that is kept 128 higher, or 0. Of a number that is not kept so the answer is not decided, but that it is at most 96.
+// The place that is kept higher by `RAISE`, or 0. Of a number that is not kept so the answer is not decided, but that it is at most 96.
 fn lowered(kept: usize) -> Place
     ensures { λ r. ⌜ (r .0 ≤ GRPGTCNT) × (GRPGTCNT < kept → kept ≤ RAISE + GRPGTCNT → r .0 ≡ kept - RAISE) ⌝ }
 {
@@ -115,7 +115,7 @@ impl Entry {
     }
 }
 
-impl Open {
+impl OpenElements {
     // Nothing is open yet: the document element is required.
     pub fn new() -> Self
         ensures { λ r. ⌜ r ≡ fresh ⌝ }
@@ -123,7 +123,7 @@ impl Open {
         let document = ElementNo(0);
         let none = Place(0);
         let first = Place(1);
-        Open {
+        OpenElements {
             around: [Entry {
                 element: 0,
                 place: 0,

@@ -17,8 +17,8 @@ use Rattle.document_laws.specs.Decide.{decided}
 use Rattle.rules_laws.specs.Runs.{isRun, runEnd}
 use Rattle.rules.specs.Bytes.{elementLimit}
 use Rattle.attribute_marks.specs.Marks.{Marked}
-use Rattle.pieces.specs.declared.Piece.{Piece}
-use Rattle.pieces.specs.declared.Piece.the-variants as found
+use Rattle.pieces.specs.declared.Found.{Found}
+use Rattle.pieces.specs.declared.Found.the-variants as found
 
 -- A tag at `at`, up to `after`, that names the element x; 0 if none is declared so. The attributes that it gives are those of the element's list.
 pub record Names (c : Settings) (s : List ℕ) (es : List Element) (d : List ℕ) (l : Line) (o : Open) (kind : Tag → rules.Piece) (at x after : ℕ) : Type 0 where
@@ -51,14 +51,14 @@ pub data ToSettle (c : Settings) (s : List ℕ) (es : List Element) (d : List �
   starts : 1 ≤ x → Names c s es d l o startTag at x after → ToSettle c s es d l o at x after
 
 -- What the code finds at `at` of d, where the current element is o and l is the line.
-abbrev pub Finds : Settings → (s : List ℕ) (es : List Element) (d : List ℕ) (l : Line) (o : Open) (at : ℕ) → Piece → Type 0
+abbrev pub Finds : Settings → (s : List ℕ) (es : List Element) (d : List ℕ) (l : Line) (o : Open) (at : ℕ) → Found → Type 0
 Finds c s es d l o at (found.Token x after) = ToSettle c s es d l o at (x .0) after
 Finds c s es d l o at (found.End x after) = Names c s es d l o endTag at (x .0) after × (1 ≤ x .0)
 Finds c s es d l o at (found.Passed after) = Ignored c s es d l o at after
 Finds c s es d l o at (found.Refused f) = Unread c s es d l o at (f .number) (f .at)
 
 -- Where it is a start tag of the element x, each attribute of that is marked as the tag gives it.
-abbrev pub MarksAt : Settings → (s : List ℕ) (es : List Element) (d : List ℕ) (at : ℕ) → Piece → (marks : List ℕ) → Type 0
+abbrev pub MarksAt : Settings → (s : List ℕ) (es : List Element) (d : List ℕ) (at : ℕ) → Found → (marks : List ℕ) → Type 0
 MarksAt c s es d at (found.Token x after) marks = 1 ≤ x .0 → (t : Tag) → piece (c .nameLength) d at ≡ got (startTag t) → Marked s (elementAt es (x .0 - 1) .attributes) d (t .written) marks
 MarksAt c s es d at (found.End x after) marks = Unit {0}
 MarksAt c s es d at (found.Passed after) marks = Unit {0}
@@ -66,7 +66,7 @@ MarksAt c s es d at (found.Refused f) marks = Unit {0}
 
 -- What is found moves on and stays within the document, which is `len` bytes long, and names an element that the tables have room for,
 -- whatever they hold.
-abbrev pub Onward : (len at : ℕ) → Piece → Type 0
+abbrev pub Onward : (len at : ℕ) → Found → Type 0
 Onward len at (found.Token x after) = (x .0 ≤ elementLimit) × (at < after) × (after ≤ len)
 Onward len at (found.End x after) = (x .0 ≤ elementLimit) × (at < after) × (after ≤ len)
 Onward len at (found.Passed after) = (at < after) × (after ≤ len)

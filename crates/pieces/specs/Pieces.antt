@@ -36,8 +36,8 @@ use Rattle.attribute_marks.specs.Differ.{NamesDiffer, lists-differ}
 use Rattle.attribute_marks.specs.Marks.{Marked, Attributed}
 use Rattle.type_tables.specs.Tables.{Entered}
 use Rattle.record_ends.specs.Held.{Since}
-use Rattle.pieces.specs.declared.Piece.{Piece}
-use Rattle.pieces.specs.declared.Piece.the-variants as found
+use Rattle.pieces.specs.declared.Found.{Found}
+use Rattle.pieces.specs.declared.Found.the-variants as found
 use Rattle.pieces.specs.Finds.{Names, Ignored, skips, separates, malformed, undeclaredStart, undeclaredEnd, Runs, ToSettle, starts, Finds, MarksAt, Onward}
 
 -- From the token
@@ -61,7 +61,7 @@ module _ (c : Settings) (s : List ℕ) (es : List Element) (d : List ℕ) (at : 
   pub finds-end : piece (c .nameLength) d at ≡ got (endTag t) → (x ≡ 0 → ⊥) → Names c s es d line o endTag at x (t .after) × (1 ≤ x)
   finds-end p l = (record { name = t .name; size = t .size; written = t .written; there = under-end c s es d at line o p; number = sym q }, omega arith)
 
-  module _ (z : x ≡ 0) (r : Piece) (w : r ≡ found.Refused (record { number = 10; at = at })) (marks : List ℕ) where
+  module _ (z : x ≡ 0) (r : Found) (w : r ≡ found.Refused (record { number = 10; at = at })) (marks : List ℕ) where
     pub finds-undeclared-start : piece (c .nameLength) d at ≡ got (startTag t) → Finds c s es d line o at r × MarksAt c s es d at r marks
     finds-undeclared-start p = rw w (undeclaredStart (record { name = t .name; size = t .size; written = t .written; there = under-undeclared c s es d at line o p (sym q ∙ z); number = sym q ∙ z }) refl refl, tt)
 
@@ -113,7 +113,7 @@ attributed-none long s lists d given marks at b n z h xs ws l k =
     }
 
 -- A blank is ignored where data does not fit, and begins a run where it does. The tables answer of the element e, which the open one is.
-says : (s : List ℕ) (es : List Element) (o : Open) {e : ℕ} {r : Bool} → o .number ≡ e → r ≡ leb 1 (decided s es .fits e (o .taken) pcdata) → r ≡ leb 1 (fitting s es (decided s es) o pcdata)
+says : (s : List ℕ) (es : List Element) (o : Open) {e : ℕ} {r : Bool} → o .element ≡ e → r ≡ leb 1 (decided s es .fits e (o .taken) pcdata) → r ≡ leb 1 (fitting s es (decided s es) o pcdata)
 says s es o n q = q ∙ ap (λ (k : ℕ). leb 1 (decided s es .fits k (o .taken) pcdata)) (sym n)
 
 none-fits : (k : ℕ) → leb 1 k ≡ false → k ≡ 0
@@ -165,7 +165,7 @@ module _ (d : List ℕ) (at : ℕ) (h : at < length d) where
   pub onward-run : {after : ℕ} → after ≡ runEnd d (at + 1) → Onward (length d) at (found.Token (elementNo 0) after)
   onward-run e = let (i, j) = runEnd-in d (at + 1) (omega arith) in (omega arith, omega arith, omega arith)
 
-  pub onward-refused : {p : Piece} {f : Fault} → p ≡ found.Refused f → Onward (length d) at p
+  pub onward-refused : {p : Found} {f : Fault} → p ≡ found.Refused f → Onward (length d) at p
   onward-refused e = rw e tt
 
   module _ {t : Tag} {x : ElementNo} (few : x .0 ≤ elementLimit) where

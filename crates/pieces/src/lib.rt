@@ -4,7 +4,7 @@
 // the bits of what has begun in each open element, `classes` is the table of delimiters, `lists` that of list_table, `given` that of tag_attributes, `marks` that of
 // attribute_marks. Where the tables are no type's, what is found is not decided, but that its element is at most 64 and that it ends
 // further on, within the document, unless it is refused.
-use document_text::Token;
+use document_text::Piece;
 use layout::BEGUN;
 use layout::ElementNo;
 use layout::FACTS;
@@ -43,7 +43,7 @@ ghost use Rattle.record_ends.specs.Held.{lineOf};
 ghost use Rattle.pieces.specs.Finds.{Finds, MarksAt, Onward};
 
 // What stands at a position of the document, names looked up.
-pub enum Piece {
+pub enum Found {
     // It is the start tag of an element, or a run of data for 0, up to here.
     Token(ElementNo, usize),
     // It is the end tag of an element, up to here.
@@ -54,10 +54,10 @@ pub enum Piece {
 }
 
 // The tag at `at` is of an undeclared name, number 10.
-fn undeclared(at: usize) -> Piece
-    ensures { λ r. ⌜ r ≡ Piece.Refused (record { number = 10; at = at }) ⌝ }
+fn undeclared(at: usize) -> Found
+    ensures { λ r. ⌜ r ≡ Found.Refused (record { number = 10; at = at }) ⌝ }
 {
-    Piece::Refused(Fault { number: 10, at: at })
+    Found::Refused(Fault { number: 10, at: at })
 }
 
 // The element that a tag names, or 0.
@@ -97,7 +97,7 @@ fn held(
 
 // What stands at `at`, where the current element, of which so many are around it as `level` says, is e after the place u. `since` and `mark` are those of
 // record_ends. Where it is a start tag, `marks` has the attributes that it gives; else, and where it is refused, what that holds is not decided.
-pub fn piece_at(
+pub fn found_at(
     long: usize,
     edition: usize,
     s: &[u8],
@@ -119,7 +119,7 @@ pub fn piece_at(
     mark: usize,
     given: &mut [u16; GIVEN],
     marks: &mut [u16; MARKS],
-) -> Piece
+) -> Found
     requires { ⌜ Classes (now classes) × (long ≤ mostNameLength) × (level ≤ TAGLVL) × (e .0 ≤ elementLimit) × (u .0 ≤ GRPGTCNT) × (at < length (now d)) × (length (now d) ≤ documentLimit) × (length (now s) ≤ typeLimit) × (since ≤ at) ⌝ }
     ensures { λ r. ⌜ Onward (length (now (d .entry))) at r ⌝ }
     ensures { λ r. ⌜ ((es : List Element) → Indexed (now (s .entry)) es (now (elements .entry)) (now (index .entry)) → Tables (now (s .entry)) es (now (rows .entry)) (now (places .entry)) (now (facts .entry)) (now (members .entry)) →
@@ -127,38 +127,38 @@ pub fn piece_at(
         (o : rules.Open) → Entered es (now (members .entry)) (now (begun .entry)) level (e .0) (u .0) o → (since ≡ 0 → isFresh o ≡ true) →
         Finds (settings long edition) (now (s .entry)) es (now (d .entry)) (lineOf since mark) o at r × MarksAt (settings long edition) (now (s .entry)) es (now (d .entry)) at r (now (marks .exit))) ⌝ }
 {
-    let t = document_text::token_at(long, classes, d, at, given);
+    let t = document_text::piece_at(long, classes, d, at, given);
     let data = ElementNo(0);
     match t {
-        Token::StartTag(g) => {
+        Piece::StartTag(g) => {
             let x = tagged(s, elements, index, d, g);
             if x.0 == 0 {
                 return undeclared(at);
             }
             let f = held(long, s, lists, d, x, given, g.given, at, marks);
             if f.number != 0 {
-                return Piece::Refused(f);
+                return Found::Refused(f);
             }
-            return Piece::Token(x, g.after);
+            return Found::Token(x, g.after);
         }
-        Token::EndTag(g) => {
+        Piece::EndTag(g) => {
             let x = tagged(s, elements, index, d, g);
             if x.0 == 0 {
                 return undeclared(at);
             }
-            return Piece::End(x, g.after);
+            return Found::End(x, g.after);
         }
-        Token::Skipped(j) => return Piece::Passed(j),
-        Token::Refused(f) => return Piece::Refused(f),
-        Token::Blank => {
+        Piece::Skipped(j) => return Found::Passed(j),
+        Piece::Refused(f) => return Found::Refused(f),
+        Piece::Blank => {
             if !type_tables::takes_data(rows, places, facts, members, begun, level, e, u) {
-                return Piece::Passed(at + 1);
+                return Found::Passed(at + 1);
             }
             if record_ends::is_ignored(edition, d, at, since, mark, u) {
-                return Piece::Passed(at + 1);
+                return Found::Passed(at + 1);
             }
         }
-        Token::Data => {}
+        Piece::Data => {}
     }
-    Piece::Token(data, data_runs::run_end(classes, d, at + 1))
+    Found::Token(data, data_runs::run_end(classes, d, at + 1))
 }

@@ -51,8 +51,8 @@ module _ (s : List ℕ) (es : List Element) (D : Decisions) where
       (x ∷ endOfEmpty k after ∷ [], append-assoc (z .events) (x ∷ []) (endOfEmpty k after ∷ []), rw m)
   deed-left {z} (inferred k at e l) = (startInferred k at (placeTaken (takePlace (requiredPlace s es D (z .current)) z .current)) ∷ [], refl, refl)
   deed-left {z} (fitted at size l f) = (dataRun at size ∷ [], ap (λ (ev : List Event). ev ++ dataRun at size ∷ []) (data-keeps s es D size z), refl)
-  deed-left {z} (inferred-end u us at e c o) = (endInferred (z .current .number) at ∷ [], refl, rw e)
-  deed-left {z} (closed u us at after e c) = (endWritten (z .current .number) at after ∷ [], refl, rw e)
+  deed-left {z} (inferred-end u us at e c o) = (endInferred (z .current .element) at ∷ [], refl, rw e)
+  deed-left {z} (closed u us at after e c) = (endWritten (z .current .element) at after ∷ [], refl, rw e)
 
   deeds-left : {z : State} → Deeds s es D z → z ≡ leftBy (z .events) nothingOpen
   deeds-left nothing = refl

@@ -82,10 +82,10 @@ module _ {c : Settings} (s : List ℕ) (es : List Element) (accepted : Accepts c
       itself = rw (eq-eqb (elementAt es 0 .size) (elementAt es 0 .size) refl, isNamed) (sameText-refl s (elementAt es 0 .at) (elementAt es 0 .size))
 
   -- A start of the element k that takes the place p, which fits.
-  took-place : (o : Open) (b : Begun es o) (k p : ℕ) (e : Event) → 1 ≤ k → k ≤ length es → e .number ≡ k → e .place ≡ shown (o .number) p → Fits s es (b .group) (b .places) (o .taken) (start k) p → Took s es o e
-  took-place o b k p e l h number place x = go (o .number) refl
+  took-place : (o : Open) (b : Begun es o) (k p : ℕ) (e : Event) → 1 ≤ k → k ≤ length es → e .number ≡ k → e .place ≡ shown (o .element) p → Fits s es (b .group) (b .places) (o .taken) (start k) p → Took s es o e
+  took-place o b k p e l h number place x = go (o .element) refl
     where
-      go : (m : ℕ) → o .number ≡ m → Took s es o e
+      go : (m : ℕ) → o .element ≡ m → Took s es o e
       go zero i = document-element i (number ∙ first-named (subst (λ (m : ℕ). contentOf es m ≡ model (b .group) (b .places) (b .tokens)) i (b .has)) (o .taken) k p l h x) (place ∙ ap (λ (m : ℕ). shown m p) i)
       go (suc j) i =
           let has = subst (λ (m : ℕ). contentOf es m ≡ model (b .group) (b .places) (b .tokens)) i (b .has) in
@@ -137,7 +137,7 @@ module _ {c : Settings} (s : List ℕ) (es : List Element) (accepted : Accepts c
         let o = z .current in
         let x = b .current in
         let p = fitting s es D o (start k) in
-        took-place o x k p e (d .0) (d .1) number (place ∙ placeTaken-took o p) (means .walks (o .number) (x .has) (o .taken) (x .begins) .fits (start k) .some f)
+        took-place o x k p e (d .0) (d .1) number (place ∙ placeTaken-took o p) (means .walks (o .element) (x .has) (o .taken) (x .begins) .fits (start k) .some f)
 
     required-took : (z : State) (b : AllBegun es z) (k : ℕ) → inferable s es D (z .current) ≡ k → 1 ≤ k → (e : Event) → e .number ≡ k → e .place ≡ placeTaken (takePlace (requiredPlace s es D (z .current)) z .current) → Took s es (z .current) e
     required-took z b k i l e number place =
@@ -147,7 +147,7 @@ module _ {c : Settings} (s : List ℕ) (es : List Element) (accepted : Accepts c
         let may = inferable-may s es D o (rw i (le-leb 1 k l)) in
         let declared : k ≤ length es = rw i at (may .declared) in
         let named : numberOf s es s (placeAt (x .places) (p - 1) .at) (placeAt (x .places) (p - 1) .size) ≡ k = rw (x .has) at (inferable-named s es D o k i l) in
-        let r = means .walks (o .number) (x .has) (o .taken) (x .begins) .required .some (may .place) in
+        let r = means .walks (o .element) (x .has) (o .taken) (x .begins) .required .some (may .place) in
         took-place o x k p e l declared number (place ∙ placeTaken-took o p)
         (record { name = named-number (c .nameLength) s es (accepted .elements) (x .places) k p l declared .1 named; next = r .next })
 

@@ -15,7 +15,7 @@ use Rattle.rules.specs.Bytes.{TAGLVL}
 use Rattle.document_laws.specs.Decide.{decided}
 use Rattle.document_laws.specs.Moves.{state}
 use Rattle.type_tables.specs.Tables.{Declares, Facts, Tables, CanTake}
-use Rattle.open_elements.specs.declared.Open.{Open}
+use Rattle.open_elements.specs.declared.OpenElements.{OpenElements}
 use Rattle.open_elements.specs.declared.Outcome.{Outcome}
 use Rattle.open_elements.specs.Stands.{Becomes, opening, Ranged, Stands, Taking}
 use Rattle.event_buffer.specs.Buffers.{Puts}
@@ -70,7 +70,7 @@ Notes es x y events w = w ≡ state (entering es x y .current) (entering es x y 
 -- The token takes its place by what was found, and its events are put, or it is refused; where it fits at none it is refused. An element with a model is not
 -- opened yet: where it is not refused there is room for it, and the open elements are those before but for the place that was taken. What is put is what is shown of
 -- the events that the rules note: a run of data may reach further than it is shown, a tag ends at `shown`.
-pub record Placed (rows places facts M begun : List ℕ) (found : Way) (x at shown n : ℕ) (o : Open) (numbers bytes : List ℕ) (r : Outcome) (begun′ numbers′ bytes′ : List ℕ) : Type 0 where
+pub record Placed (rows places facts M begun : List ℕ) (found : Way) (x at shown n : ℕ) (o : OpenElements) (numbers bytes : List ℕ) (r : Outcome) (begun′ numbers′ bytes′ : List ℕ) : Type 0 where
   pub ranged : Ranged (r .open)
   pub small : r .number < 20
   pub whole : length begun′ ≡ length begun
@@ -91,16 +91,16 @@ pub record Placed (rows places facts M begun : List ℕ) (found : Way) (x at sho
       → (after : ℕ) → (1 ≤ x → after ≡ shown) → Becomes at (r .number) (Notes es x (takePlace p z) (writtenOf x opens taken at after)) (noting es x at after (takePlace p z))
 
 -- Where it opens, the element x is the current one.
-abbrev pub openedBy : (rows : List ℕ) (x : ℕ) (opens : Bool) → Open → Open
+abbrev pub openedBy : (rows : List ℕ) (x : ℕ) (opens : Bool) → OpenElements → OpenElements
 openedBy rows x true o = opening rows x o
 openedBy rows x false o = o
 
 -- The open elements stand for what was read, and so many events are noted more than in z.
-abbrev pub Follows : (es : List Element) (M begun : List ℕ) (o : Open) (z : State) (events : List Event) → State → Type 0
+abbrev pub Follows : (es : List Element) (M begun : List ℕ) (o : OpenElements) (z : State) (events : List Event) → State → Type 0
 Follows es M begun o z events y = Stands es M begun o y × (y .events ≡ z .events ++ events)
 
 -- After that an element with a model is opened, and the open elements are q: by the tables of a type they stand for what the rules make of the token.
-pub record Places (rows places facts M begun : List ℕ) (found : Way) (x at shown n : ℕ) (o : Open) (numbers bytes : List ℕ) (r : Outcome) (q : Open) (begun′ numbers′ bytes′ : List ℕ) : Type 0 where
+pub record Places (rows places facts M begun : List ℕ) (found : Way) (x at shown n : ℕ) (o : OpenElements) (numbers bytes : List ℕ) (r : Outcome) (q : OpenElements) (begun′ numbers′ bytes′ : List ℕ) : Type 0 where
   pub placed : Placed rows places facts M begun found x at shown n o numbers bytes r begun′ numbers′ bytes′
   pub ranged : Ranged q
   pub notes : (placed .p ≡ 0 → ⊥) → (s : List ℕ) (es : List Element) → Tables s es rows places facts M → (z : State) → Stands es M begun o z → CanTake es (z .current) (placed .p) → x ≤ length es

@@ -18,7 +18,7 @@ use Rattle.rules.specs.Bytes.{GRPGTCNT, TAGLVL, elementLimit}
 use Rattle.document_laws.specs.Decide.{decided}
 use Rattle.document_laws.specs.Moves.{state, placeTaken-took}
 use Rattle.type_tables.specs.Tables.{nameNumber, Declares, Tables, CanTake}
-use Rattle.open_elements.specs.declared.Open.{Open}
+use Rattle.open_elements.specs.declared.OpenElements.{OpenElements}
 use Rattle.open_elements.specs.declared.Outcome.{Outcome}
 use Rattle.open_elements.specs.Stands.{Becomes, Ranged, Stands, Taking}
 use Rattle.open_elements.specs.Methods.{stands-deep, stands-noted, stands-opening, ranged-taking, ranged-opening}
@@ -134,12 +134,12 @@ model-is : {rows places facts M : List ℕ} {x : ℕ} {b : Bool} → Opens facts
 model-is opens {s} {es} tables element most e = sym (opens .1 s es (tables .raised) (tables .facts-say) (omega (arith, element), most)) ∙ e
 
 -- The place that is shown is the one that was taken.
-shows : {es : List Element} {M begun : List ℕ} {o : Open} {z : State} → Stands es M begun o z → (p : ℕ) {v : ℕ} → v ≡ shown (o .element .0) p → placeTaken (takePlace p z .current) ≡ v
+shows : {es : List Element} {M begun : List ℕ} {o : OpenElements} {z : State} → Stands es M begun o z → (p : ℕ) {v : ℕ} → v ≡ shown (o .element .0) p → placeTaken (takePlace p z .current) ≡ v
 shows {z = z} stands p same = placeTaken-took (z .current) p ∙ ap (λ k. shown k p) (stands .current .entered .number) ∙ sym same
 
 -- What the code does with the place p
 
-module _ {rows places facts : List ℕ} (M begun : List ℕ) {found : Way} {x at to n : ℕ} {o : Open} (h : Ranged o) {numbers bytes : List ℕ} {p : ℕ} (asked : Asked rows places facts found x (o .element .0) p) where
+module _ {rows places facts : List ℕ} (M begun : List ℕ) {found : Way} {x at to n : ℕ} {o : OpenElements} (h : Ranged o) {numbers bytes : List ℕ} {p : ℕ} (asked : Asked rows places facts found x (o .element .0) p) where
   pub placed-nowhere : p ≡ 0 → Placed rows places facts M begun found x at to n o numbers bytes (record { «open» = o; events = n; number = 12 }) begun numbers bytes
   placed-nowhere z =
       record {
@@ -186,7 +186,7 @@ module _ {rows places facts : List ℕ} (M begun : List ℕ) {found : Way} {x at
               subst (Becomes at 15 (Notes es x (takePlace p z) (writtenOf x false 0 at after))) (sym (noting-full es at after (takePlace p z) x element (omega (arith, stands-deep stands)))) (refl, omega arith, refl);
         }
 
-    pub placed-taken : full ≡ false → p ≤ GRPGTCNT → {q : Open} {begun′ : List ℕ} → Taking rows M begun p o q begun′ → {v : ℕ} → v ≡ shown (o .element .0) p
+    pub placed-taken : full ≡ false → p ≤ GRPGTCNT → {q : OpenElements} {begun′ : List ℕ} → Taking rows M begun p o q begun′ → {v : ℕ} → v ≡ shown (o .element .0) p
         → {m : ℕ} {numbers′ bytes′ : List ℕ} → Writes facts x v at to n numbers bytes m numbers′ bytes′
         → Placed rows places facts M begun found x at to n o numbers bytes (record { «open» = q; events = m; number = 0 }) begun′ numbers′ bytes′
     placed-taken roomy within took {v} same w =
@@ -222,7 +222,7 @@ becomes-more at n (got y) f h = (h .0, f (h .0) y (h .1))
 
 -- What the caller does with an element that opens
 
-module _ {rows places facts M begun : List ℕ} {found : Way} {x at to n : ℕ} {o : Open} {numbers bytes : List ℕ} {r : Outcome} {begun′ numbers′ bytes′ : List ℕ}
+module _ {rows places facts M begun : List ℕ} {found : Way} {x at to n : ℕ} {o : OpenElements} {numbers bytes : List ℕ} {r : Outcome} {begun′ numbers′ bytes′ : List ℕ}
     (h : Placed rows places facts M begun found x at to n o numbers bytes r begun′ numbers′ bytes′) where
   -- The token was refused.
   pub places-refused : (r .number ≡ 0 → ⊥) → Places rows places facts M begun found x at to n o numbers bytes r (r .open) begun′ numbers′ bytes′
@@ -236,7 +236,7 @@ module _ {rows places facts M begun : List ℕ} {found : Way} {x at to n : ℕ} 
             (h .notes some s es tables z stands can most after ends);
       }
 
-  module _ (fine : r .number ≡ 0) (b : Bool) (none : x ≡ 0 → b ≡ false) {q : Open} (i : q ≡ openedBy rows x b (r .open)) where
+  module _ (fine : r .number ≡ 0) (b : Bool) (none : x ≡ 0 → b ≡ false) {q : OpenElements} (i : q ≡ openedBy rows x b (r .open)) where
     pub opened-ranged : x ≤ elementLimit → Ranged q
     opened-ranged small = rw i (by-flag b none)
       where
@@ -270,7 +270,7 @@ module _ {rows places facts M begun : List ℕ} {found : Way} {x at to n : ℕ} 
           (λ e w is. (subst (Stands es M begun′ q) (sym is) (stands-noted opened-stands (y .events ++ ev)), ap (λ (v : State). v .events) is)) (h .notes some s es tables z stands can most after ends)
 
   -- Whatever the tables hold: an element that opens by the table of facts was opened.
-  pub places-opened : r .number ≡ 0 → x ≤ elementLimit → (b : Bool) → Opens facts x b → {q : Open} → q ≡ openedBy rows x b (r .open) → Places rows places facts M begun found x at to n o numbers bytes r q begun′ numbers′ bytes′
+  pub places-opened : r .number ≡ 0 → x ≤ elementLimit → (b : Bool) → Opens facts x b → {q : OpenElements} → q ≡ openedBy rows x b (r .open) → Places rows places facts M begun found x at to n o numbers bytes r q begun′ numbers′ bytes′
   places-opened fine small b opens i =
       record {
         placed = h;

@@ -11,7 +11,7 @@ use layout::FACTS;
 use layout::PLACES;
 use layout::Place;
 use layout::ROWS;
-use open_elements::Open;
+use open_elements::OpenElements;
 use open_elements::Outcome;
 use ways::Way;
 ghost use Prim.Native.Nat.{_+_, _≤_, _<_};
@@ -56,7 +56,7 @@ pub fn placed(
     facts: &[u8; FACTS],
     members: &[u8],
     begun: &mut [u32; BEGUN],
-    state: Open,
+    state: OpenElements,
     found: Way,
     x: ElementNo,
     at: usize,

@@ -36,12 +36,12 @@ Parents (u ∷ us) (c ∷ cs) = (isFresh u ≡ false) × EndsInOne c × Parents 
 abbrev Newly : Open → List Thing → Type 0
 Newly o c = ((c ≡ []) × (isFresh o ≡ true)) ⊎ ((isFresh o ≡ false) × EndsInOne c)
 
-snoc-taken : (ps : List ℕ) (p n : ℕ) → isFresh (record { number = n; taken = ps ++ p ∷ [] }) ≡ false
+snoc-taken : (ps : List ℕ) (p n : ℕ) → isFresh (record { element = n; taken = ps ++ p ∷ [] }) ≡ false
 snoc-taken [] p n = refl
 snoc-taken (q ∷ ps) p n = refl
 
 place-taken : (p : ℕ) (z : State) → isFresh (takePlace p z .current) ≡ false
-place-taken p z = snoc-taken (z .current .taken) p (z .current .number)
+place-taken p z = snoc-taken (z .current .taken) p (z .current .element)
 
 closed : (u : Open) (us : List Open) (around : List (List Thing)) (c : List Thing) (ended : List (List Thing)) → Parents (u ∷ us) around → Newly u (overIn around c ended .current) × Parents us (overIn around c ended .around)
 closed u us [] c ended h = absurd h

@@ -38,7 +38,7 @@ module _ (c : Settings) (s d : List ℕ) (es : List Element) (given : List Event
   some-name = let v = typeFile-elements (c .nameLength) s es (w .accepted .elements) in first-named s es (v .0) (v .1 .each)
 
   -- In the document itself the places taken begin the walk of one place.
-  document-begun : (o : Open) → o .number ≡ 0 → Begun es o → Begins (place 1) (o .taken)
+  document-begun : (o : Open) → o .element ≡ 0 → Begun es o → Begins (place 1) (o .taken)
   document-begun o e b =
       let q : contentOf es 0 ≡ model (b .group) (b .places) (b .tokens) = ap (contentOf es) (sym e) ∙ b .has in
       let g : place 1 ≡ b .group = cc in

@@ -23,7 +23,7 @@ use Rattle.record_laws.specs.Places.{placeOf, places, places-append}
 
 -- The number of the outermost, and what came in it.
 abbrev pub floor : List Open → Open → ℕ
-floor [] o = o .number
+floor [] o = o .element
 floor (u ∷ around) o = floor around u
 
 abbrev pub bottom : List (List Thing) → List Thing → List Thing
@@ -35,7 +35,7 @@ pub record Ground (z : State) (k : Contents) : Type 0 where
   pub floor : floor (z .around) (z .current) ≡ 0
   pub clean : (p : ℕ) → places p (bottom (k .around) (k .current)) ≡ 0
 
-floor-taken : (around : List Open) (o : Open) (p : ℕ) → floor around (record { number = o .number; taken = o .taken ++ p ∷ [] }) ≡ floor around o
+floor-taken : (around : List Open) (o : Open) (p : ℕ) → floor around (record { element = o .element; taken = o .taken ++ p ∷ [] }) ≡ floor around o
 floor-taken [] o p = refl
 floor-taken (u ∷ around) o p = refl
 
@@ -83,13 +83,13 @@ ground-add z k t r h w = record { floor = w .floor; clean = λ p. ap (places p) 
 ground-quiet : (z : State) (k : Contents) (t : Thing) → ((p : ℕ) → placeOf p t ≡ 0) → Ground z k → Ground z (add t k)
 ground-quiet z k t h w = record { floor = w .floor; clean = λ p. bottom-quiet p (k .around) (k .current) t (h p) ∙ w .clean p }
 
-floor-none : (around : List Open) (o : Open) → around ≡ [] → floor around o ≡ 0 → o .number ≡ 0
+floor-none : (around : List Open) (o : Open) → around ≡ [] → floor around o ≡ 0 → o .element ≡ 0
 floor-none [] o e h = h
 floor-none (u ∷ around) o e h = absurd (nil≢cons (sym e))
 
 -- In the document itself no data byte fits, whatever of the places taken there were taken before it.
 abbrev pub NoData : List ℕ → List Element → Decisions → State → Type 0
-NoData s es D z = z .around ≡ [] → z .current .number ≡ 0 → (before after : List ℕ) → z .current .taken ≡ before ++ after → ¬ (1 ≤ D .fits 0 before pcdata)
+NoData s es D z = z .around ≡ [] → z .current .element ≡ 0 → (before after : List ℕ) → z .current .taken ≡ before ++ after → ¬ (1 ≤ D .fits 0 before pcdata)
 
 module _ (c : Settings) (s : List ℕ) (es : List Element) (D : Decisions) (d : List ℕ) (none : (at : ℕ) (l : Line) (z : State) (k : Contents) → Fills c s es D d at l z k → NoData s es D z) where
   fits-inside : {at : ℕ} {l : Line} {z : State} {k : Contents} → Fills c s es D d at l z k → Ground z k → leb 1 (fitting s es D (z .current) pcdata) ≡ true → ¬ (z .around ≡ [])
@@ -103,7 +103,7 @@ module _ (c : Settings) (s : List ℕ) (es : List Element) (D : Decisions) (d : 
       → floor (o .around) (o .current) ≡ 0 → (o .around ≡ [] → 1 ≤ fitting s es D (o .current) pcdata) → ¬ (o .around ≡ [])
   taken-inside {at} {l} {y} {k} ev o h q g f e =
       let n = floor-none (o .around) (o .current) e g in
-      none at l y k h (ap (λ (x : State). x .around) q ∙ e) (ap (λ (x : State). x .current .number) q ∙ n) (o .current .taken) (fitting s es D (o .current) pcdata ∷ []) (ap (λ (x : State). x .current .taken) q)
+      none at l y k h (ap (λ (x : State). x .around) q ∙ e) (ap (λ (x : State). x .current .element) q ∙ n) (o .current .taken) (fitting s es D (o .current) pcdata ∷ []) (ap (λ (x : State). x .current .taken) q)
       (subst (λ (m : ℕ). 1 ≤ D .fits m (o .current .taken) pcdata) n (f e))
 
   turn-ground : (at i : ℕ) (l m : Line) (z y : State) (k j : Contents) → Fills c s es D d at l z k → Fills c s es D d i m y j → Turn c s es D d at l z k i m y j → Lined s es D d at l z k → Ground z k → Ground y j

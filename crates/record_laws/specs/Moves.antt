@@ -153,7 +153,7 @@ module _ (s : List ℕ) (es : List Element) (D : Decisions) where
   ended-leads : (at : ℕ) {z y : State} → Ended s es D at z y → (k : Contents) → Leads z k y
   ended-leads at all-ended k = record { contents = k; moves = still }
   ended-leads at {z} (ends-then u us e c o r) k =
-      leads-behind (first (closes u us (endInferred (z .current .number) at) e (closes-inferred (z .current .number) at)) still) (ended-leads at r (over k))
+      leads-behind (first (closes u us (endInferred (z .current .element) at) e (closes-inferred (z .current .element) at)) still) (ended-leads at r (over k))
 
   started-leads : (at : ℕ) {z y : State} → Started s es D at z y → (k : Contents) → Leads z k y
   started-leads at all-started k = record { contents = k; moves = still }

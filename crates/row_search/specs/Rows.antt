@@ -45,7 +45,7 @@ RowSays rows e u q b = b ≡ nextBit rows e u q
 abbrev pub BothSay : (rows M begun : List ℕ) (level e u q : ℕ) → Bool → Type 0
 BothSay rows M begun level e u q b = ((nextBit rows e u q ≡ false) × (b ≡ false)) ⊎ ((nextBit rows e u q ≡ true) × Follows M level e u q begun b)
 
--- The same from a number that is 128 higher.
+-- The same from a number that is higher by `RAISE`.
 pub record LargestRaised (Says : ℕ → Bool → Type 0) (places : List ℕ) (e p r : ℕ) : Type 0 where
   pub small : r ≤ GRPGTCNT
   pub finds : (n : ℕ) → p ≡ RAISE + n → n ≤ GRPGTCNT → Largest Says places e n r

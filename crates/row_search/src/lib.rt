@@ -66,7 +66,7 @@ pub fn largest(rows: &[u8; ROWS], places: &[u8; PLACES], e: ElementNo, u: Place,
     Place(0)
 }
 
-// The largest of the place p - 128 and the smaller ones of its name that may come next in the element e, whose model has an "&", after the place u at the
+// The largest of the place p - `RAISE` and the smaller ones of its name that may come next in the element e, whose model has an "&", after the place u at the
 // level, or 0.
 pub fn largest_among(
     rows: &[u8; ROWS],

@@ -41,11 +41,11 @@ pub data Act (s : List ℕ) (es : List Element) (D : Decisions) (z : State) : St
   data-byte : (at : ℕ) → 1 ≤ fitting s es D (z .current) pcdata
       → Act s es D z (record { current = takeToken s es D pcdata z .current; around = z .around; events = withData at (z .events) })
   -- An end is inferred: the content is complete and the end is "O". The parent u is the current element again.
-  infers-end : (u : Open) (us : List Open) (at : ℕ) → z .around ≡ u ∷ us → isComplete s es D (z .current) ≡ true → endO es (z .current .number) ≡ true
-      → Act s es D z (record { current = u; around = us; events = z .events ++ endInferred (z .current .number) at ∷ [] })
+  infers-end : (u : Open) (us : List Open) (at : ℕ) → z .around ≡ u ∷ us → isComplete s es D (z .current) ≡ true → endO es (z .current .element) ≡ true
+      → Act s es D z (record { current = u; around = us; events = z .events ++ endInferred (z .current .element) at ∷ [] })
   -- An end tag closes its element, whose content is complete.
   ends : (u : Open) (us : List Open) (at after : ℕ) → z .around ≡ u ∷ us → isComplete s es D (z .current) ≡ true
-      → Act s es D z (record { current = u; around = us; events = z .events ++ endWritten (z .current .number) at after ∷ [] })
+      → Act s es D z (record { current = u; around = us; events = z .events ++ endWritten (z .current .element) at after ∷ [] })
 
 -- Acts one after another, where P holds of each state that is passed, the first and the last among them.
 pub data Acts (s : List ℕ) (es : List Element) (D : Decisions) (P : State → Type 0) : State → State → Type 0 where
@@ -73,11 +73,11 @@ pub data Deed (s : List ℕ) (es : List Element) (D : Decisions) (z : State) : S
   -- Each byte of a run of data fitted, and took its place.
   fitted : (at size : ℕ) → 1 ≤ size → ((k : ℕ) → k < size → 1 ≤ fitting s es D (dataTaken s es D k z .current) pcdata) → Deed s es D z (note (dataRun at size) (dataTaken s es D size z))
   -- An end that is inferred closed an element that was complete and whose end is "O".
-  inferred-end : (u : Open) (us : List Open) (at : ℕ) → z .around ≡ u ∷ us → isComplete s es D (z .current) ≡ true → endO es (z .current .number) ≡ true
-      → Deed s es D z (record { current = u; around = us; events = z .events ++ endInferred (z .current .number) at ∷ [] })
+  inferred-end : (u : Open) (us : List Open) (at : ℕ) → z .around ≡ u ∷ us → isComplete s es D (z .current) ≡ true → endO es (z .current .element) ≡ true
+      → Deed s es D z (record { current = u; around = us; events = z .events ++ endInferred (z .current .element) at ∷ [] })
   -- An end tag closed an element that was complete.
   closed : (u : Open) (us : List Open) (at after : ℕ) → z .around ≡ u ∷ us → isComplete s es D (z .current) ≡ true
-      → Deed s es D z (record { current = u; around = us; events = z .events ++ endWritten (z .current .number) at after ∷ [] })
+      → Deed s es D z (record { current = u; around = us; events = z .events ++ endWritten (z .current .element) at after ∷ [] })
 
 -- The state z is what its events did, one after another, from nothing open on.
 pub data Deeds (s : List ℕ) (es : List Element) (D : Decisions) : State → Type 0 where
@@ -94,8 +94,8 @@ IsStart e = (e .kind ≡ 1) ⊎ (e .kind ≡ 2)
 -- is the document itself, and the element is the first that is declared; or it is an element whose model has that place: it has the name of the start's
 -- element, it could come next after the places taken, and every place of that name that could come next is this one.
 pub data Took (s : List ℕ) (es : List Element) (parent : Open) (e : Event) : Type 0 where
-  document-element : parent .number ≡ 0 → e .number ≡ 1 → e .place ≡ 0 → Took s es parent e
-  in-model : (g : Group) (ps : List Place) (n : ℕ) → 1 ≤ parent .number → contentOf es (parent .number) ≡ model g ps n → Begins g (parent .taken)
+  document-element : parent .element ≡ 0 → e .number ≡ 1 → e .place ≡ 0 → Took s es parent e
+  in-model : (g : Group) (ps : List Place) (n : ℕ) → 1 ≤ parent .element → contentOf es (parent .element) ≡ model g ps n → Begins g (parent .taken)
       → (1 ≤ e .place) × (e .place ≤ length ps) → Fits s es g ps (parent .taken) (start (e .number)) (e .place)
       → ((q : ℕ) → Fits s es g ps (parent .taken) (start (e .number)) q → q ≡ e .place) → Took s es parent e
 

@@ -15,11 +15,12 @@ use Rattle.rules.specs.Events.{Event, startWritten, startInferred, endWr
 
 -- Open elements
 
+-- An open element: which element it is, and the places taken in it.
 pub record Open : Type 0 where
-  pub number : ℕ
+  pub element : ℕ
   pub taken : List ℕ
 
--- The current element, those around it from its parent outwards, the document itself (number 0) last, and the events so far.
+-- The current element, those around it from its parent outwards, the document itself (element 0) last, and the events so far.
 -- So many elements are open as stand around the current one: each has a parent.
 pub record State : Type 0 where
   pub current : Open
@@ -28,24 +29,24 @@ pub record State : Type 0 where
 
 -- Nothing is open yet.
 abbrev pub nothingOpen : State
-nothingOpen = record { current = record { number = 0; taken = [] }; around = []; events = [] }
+nothingOpen = record { current = record { element = 0; taken = [] }; around = []; events = [] }
 
 -- The current element takes the place p.
 abbrev pub takePlace : ℕ → State → State
-takePlace p z = record { current = record { number = z .current .number; taken = z .current .taken ++ p ∷ [] }; around = z .around; events = z .events }
+takePlace p z = record { current = record { element = z .current .element; taken = z .current .taken ++ p ∷ [] }; around = z .around; events = z .events }
 
 -- "The place they took in their parent's model, 0 for the document element" (paper 02, request seven): the parent of the document element is
--- the document itself, number 0, whose one place stands in no model of the type file.
+-- the document itself, element 0, whose one place stands in no model of the type file.
 abbrev pub shown : (parent place : ℕ) → ℕ
 shown k p = elim (eqb k 0) [ true ↦ 0 | false ↦ p ]
 
 -- The place of what has just taken one in o: the last that was taken there.
 abbrev pub placeTaken : Open → ℕ
-placeTaken o = shown (o .number) (lastOr0 (o .taken))
+placeTaken o = shown (o .element) (lastOr0 (o .taken))
 
 -- The element number k is opened in the current one.
 abbrev pub enter : ℕ → State → State
-enter k z = record { current = record { number = k; taken = [] }; around = z .current ∷ z .around; events = z .events }
+enter k z = record { current = record { element = k; taken = [] }; around = z .current ∷ z .around; events = z .events }
 
 abbrev pub note : Event → State → State
 note e z = record { current = z .current; around = z .around; events = z .events ++ e ∷ [] }
@@ -57,13 +58,13 @@ limited at z = elim (ltb TAGLVL (length (z .around))) [ true ↦ refused 15 at |
 -- The number of the element declared by the name of the place p of o, 0 if none is.
 abbrev pub elementOf : List ℕ → List Element → Open → ℕ → ℕ
 elementOf s es o p =
-    let x = placeAt (placesIn (contentOf es (o .number))) (p - 1) in
+    let x = placeAt (placesIn (contentOf es (o .element))) (p - 1) in
     numberOf s es s (x .at) (x .size)
 
 -- The element number k is among these.
 unfoldable pub isOpen : ℕ → List Open → Bool
 isOpen k [] = false
-isOpen k (o ∷ os) = elim (eqb (o .number) k) [ true ↦ true | false ↦ isOpen k os ]
+isOpen k (o ∷ os) = elim (eqb (o .element) k) [ true ↦ true | false ↦ isOpen k os ]
 
 -- What becomes of a token in the current element and in what may be inferred there.
 pub data Inward : Type 0 where
@@ -73,13 +74,13 @@ pub data Inward : Type 0 where
 -- Settling, under the type file s with the elements es
 module _ (s : List ℕ) (es : List Element) (D : Decisions) where
   abbrev pub fitting : Open → Token → ℕ
-  fitting o t = D .fits (o .number) (o .taken) t
+  fitting o t = D .fits (o .element) (o .taken) t
 
   abbrev pub isComplete : Open → Bool
-  isComplete o = D .complete (o .number) (o .taken)
+  isComplete o = D .complete (o .element) (o .taken)
 
   abbrev pub requiredPlace : Open → ℕ
-  requiredPlace o = D .required (o .number) (o .taken)
+  requiredPlace o = D .required (o .element) (o .taken)
 
   -- The element that o requires next, if its start may be inferred: it is "declared, with start "O" and a model"; else 0.
   unfoldable pub inferable : Open → ℕ
@@ -95,7 +96,7 @@ module _ (s : List ℕ) (es : List Element) (D : Decisions) where
   chain zero t o = []
   chain (suc left) t o =
       let k = inferable o in
-      let first : Open = record { number = k; taken = [] } in
+      let first : Open = record { element = k; taken = [] } in
       elim (leb 1 k) [
         | true ↦ elim (leb 1 (fitting first t)) [ true ↦ k ∷ [] | false ↦ elim (chain left t first) [ [] ↦ [] | j ∷ js ↦ k ∷ j ∷ js ] ]
         | false ↦ []
@@ -127,15 +128,15 @@ module _ (s : List ℕ) (es : List Element) (D : Decisions) where
   settleFrom t at (u ∷ around) o ev =
       elim (inward t at (record { current = o; around = u ∷ around; events = ev })) [
         | settled z ↦ got z
-        | stuck ↦ elim (isComplete o && (endO es (o .number) && leb 1 (u .number))) [
-          | true ↦ settleFrom t at around u (ev ++ endInferred (o .number) at ∷ [])
+        | stuck ↦ elim (isComplete o && (endO es (o .element) && leb 1 (u .element))) [
+          | true ↦ settleFrom t at around u (ev ++ endInferred (o .element) at ∷ [])
           | false ↦ refused 12 at
         ]
       ]
 
   -- The document element is there and has ended.
   abbrev pub isOver : State → Bool
-  isOver z = eqb (z .current .number) 0 && isComplete (z .current)
+  isOver z = eqb (z .current .element) 0 && isComplete (z .current)
 
   -- Number 16, "start tag or data after the document element", before 12.
   unfoldable pub settle : Token → (at : ℕ) → State → Reading State
@@ -166,7 +167,7 @@ module _ (s : List ℕ) (es : List Element) (D : Decisions) where
   unfoldable pub endLeftOut : (at : ℕ) → Open → Reading Event
   endLeftOut at o =
       elim (isComplete o) [
-        | true ↦ elim (endO es (o .number)) [ true ↦ got (endInferred (o .number) at) | false ↦ refused 14 at ]
+        | true ↦ elim (endO es (o .element)) [ true ↦ got (endInferred (o .element) at) | false ↦ refused 14 at ]
         | false ↦ refused 13 at
       ]
 
@@ -175,7 +176,7 @@ module _ (s : List ℕ) (es : List Element) (D : Decisions) where
   unfoldable pub closeFrom : (k at after : ℕ) → List Open → Open → List Event → Reading State
   closeFrom k at after [] o ev = refused 11 at
   closeFrom k at after (u ∷ around) o ev =
-      elim (eqb (o .number) k) [
+      elim (eqb (o .element) k) [
         | true ↦ elim (isComplete o) [
           | true ↦ got (record { current = u; around = around; events = ev ++ endWritten k at after ∷ [] })
           | false ↦ refused 13 at

@@ -17,7 +17,7 @@ use Rattle.turn_laws.specs.RunAtOnce.{takeRun}
 use Rattle.list_table.specs.Lists.{Lists}
 use Rattle.attribute_marks.specs.Marks.{Marked}
 use Rattle.type_tables.specs.Tables.{Tables}
-use Rattle.open_elements.specs.declared.Open.{Open}
+use Rattle.open_elements.specs.declared.OpenElements.{OpenElements}
 use Rattle.open_elements.specs.declared.Outcome.{Outcome}
 use Rattle.open_elements.specs.Stands.{Becomes, Ranged, Stands}
 use Rattle.open_elements.specs.Becomes.{StandsWith}
@@ -51,7 +51,7 @@ pub record Gives (long : ℕ) (s : List ℕ) (es : List Element) (d : List ℕ) 
 -- for a state of the rules, up to whatever `after` a run of data reaches; a tag ends at `shown`. By the lists of the type what is put are the events of the starts and
 -- what is shown of the token's own, with the attribute events before each start, those of a tag by its marks. The m events need not be those behind the ends: the
 -- buffers may change between.
-pub record Settles (rows places facts M lists marks : List ℕ) (x at shown : ℕ) (o : Open) (begun : List ℕ) (ends : List Event) (m : ℕ) (numbers bytes : List ℕ) (r : Outcome) (begun′ numbers′ bytes′ : List ℕ) : Type 0 where
+pub record Settles (rows places facts M lists marks : List ℕ) (x at shown : ℕ) (o : OpenElements) (begun : List ℕ) (ends : List Event) (m : ℕ) (numbers bytes : List ℕ) (r : Outcome) (begun′ numbers′ bytes′ : List ℕ) : Type 0 where
   pub ranged : Ranged (r .open)
   pub small : r .number < 20
   pub whole : length begun′ ≡ length begun

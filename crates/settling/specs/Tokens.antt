@@ -22,7 +22,7 @@ use Rattle.turn_laws.specs.Steps.{takeRun-is}
 use Rattle.list_table.specs.Lists.{Lists}
 use Rattle.attribute_events.specs.PutBefore.{PutsWritten}
 use Rattle.type_tables.specs.Tables.{Tables, CanTake}
-use Rattle.open_elements.specs.declared.Open.{Open}
+use Rattle.open_elements.specs.declared.OpenElements.{OpenElements}
 use Rattle.open_elements.specs.declared.Outcome.{Outcome}
 use Rattle.open_elements.specs.Stands.{Becomes, Ranged, Stands}
 use Rattle.open_elements.specs.Becomes.{StandsWith}
@@ -68,7 +68,7 @@ given-shown long s es d at shown false v (suc k) given none some =
     ∙ sym (with-append long s es d (start ∷ []) (end ∷ []))
 
 -- The token comes after the document.
-pub settles-over : (rows places facts M lists marks : List ℕ) (x at shown n : ℕ) (o : Open) (begun numbers bytes : List ℕ) → Ranged o
+pub settles-over : (rows places facts M lists marks : List ℕ) (x at shown n : ℕ) (o : OpenElements) (begun numbers bytes : List ℕ) → Ranged o
     → ((s : List ℕ) (es : List Element) (z : State) → Stands es M begun o z → isOver s es (decided s es) z ≡ true)
     → Settles rows places facts M lists marks x at shown o begun [] n numbers bytes (record { «open» = o; events = n; number = 16 }) begun numbers bytes
 settles-over rows places facts M lists marks x at shown n o begun numbers bytes h over =
@@ -91,7 +91,7 @@ settles-over rows places facts M lists marks x at shown n o begun numbers bytes 
           (takes-noting s es x at after z ∙ ap (λ q. andThen q (noting es x at after)) (settle-over s es (decided s es) (tokenOf x) at z (over s es z stands)));
     }
 
-module _ {rows places facts M begun : List ℕ} {x at n : ℕ} {o₀ : Open} {numbers₀ bytes₀ : List ℕ} {f : Stop} {numbers bytes : List ℕ} (shown : ℕ) (most₀ : o₀ .count ≤ TAGLVL)
+module _ {rows places facts M begun : List ℕ} {x at n : ℕ} {o₀ : OpenElements} {numbers₀ bytes₀ : List ℕ} {f : Stop} {numbers bytes : List ℕ} (shown : ℕ) (most₀ : o₀ .count ≤ TAGLVL)
     (on : (s : List ℕ) (es : List Element) (z : State) → Stands es M begun o₀ z → isOver s es (decided s es) z ≡ false)
     (h : Stops rows places facts M begun x at n o₀ numbers₀ bytes₀ f numbers bytes) where
   module _ (s : List ℕ) (es : List Element) (tables : Tables s es rows places facts M) (z : State) (stands : Stands es M begun o₀ z) (most : x ≤ length es) where
@@ -146,10 +146,10 @@ module _ {rows places facts M begun : List ℕ} {x at n : ℕ} {o₀ : Open} {nu
 
   -- Behind m₀ events the starts are inferred, each behind its attribute events, those of a tag are put, the token takes its place, and an element with a model is
   -- opened.
-  module _ {lists marks : List ℕ} {starts k m₀ m : ℕ} {o : Open} {numbersFrom bytesFrom begun₁ numbers₁ bytes₁ : List ℕ} (counted : starts ≡ startsOf (f .found)) (few : f .open .count + starts ≤ TAGLVL)
+  module _ {lists marks : List ℕ} {starts k m₀ m : ℕ} {o : OpenElements} {numbersFrom bytesFrom begun₁ numbers₁ bytes₁ : List ℕ} (counted : starts ≡ startsOf (f .found)) (few : f .open .count + starts ≤ TAGLVL)
       (a : Along rows places facts M lists at m₀ starts k (f .open) begun numbersFrom bytesFrom m o begun₁ numbers₁ bytes₁) (all : starts ≤ k)
       {m₁ : ℕ} {numbers₂ bytes₂ : List ℕ} (given : PutsWritten lists marks x m numbers₁ bytes₁ m₁ numbers₂ bytes₂)
-      {r : Outcome} {q : Open} {begun′ numbers′ bytes′ : List ℕ} (opened : Places rows places facts M begun₁ (f .found) x at shown m₁ o numbers₂ bytes₂ r q begun′ numbers′ bytes′) where
+      {r : Outcome} {q : OpenElements} {begun′ numbers′ bytes′ : List ℕ} (opened : Places rows places facts M begun₁ (f .found) x at shown m₁ o numbers₂ bytes₂ r q begun′ numbers′ bytes′) where
     abbrev placed : Placed rows places facts M begun₁ (f .found) x at shown m₁ o numbers₂ bytes₂ r begun′ numbers′ bytes′
     placed = opened .placed
 

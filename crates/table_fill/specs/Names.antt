@@ -18,7 +18,7 @@ use Rattle.element_index.specs.Indexed.{Indexed}
 use Rattle.type_tables.specs.Tables.{namedBy}
 use Rattle.table_fill.specs.Places.{slotOf, PlacePut, PlacesPut, places-more}
 
--- What a place names: an element, 255 for `#PCDATA`, 0 if that is not declared.
+-- What a place names: an element, `PCDATA`, 0 if that is not declared.
 abbrev pub nameOf : List ℕ → List Element → Place → ℕ
 nameOf s es x = cond (eqb (x .size) 0) PCDATA (numberOf s es s (x .at) (x .size))
 

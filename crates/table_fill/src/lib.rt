@@ -93,7 +93,7 @@ fn put_document(rows: &mut [u8; ROWS], places: &mut [u8; PLACES], facts: &mut [u
     put_place(places, facts, document, first, element);
 }
 
-// What the place p of the model whose names are in `names` names: an element, 255 for `#PCDATA`, 0 if that is not declared.
+// What the place p of the model whose names are in `names` names: an element, `PCDATA`, 0 if that is not declared.
 fn name(
     s: &[u8],
     elements: &[u32; RECORDS],
@@ -163,7 +163,7 @@ fn put_facts(facts: &mut [u8; FACTS], elements: &[u32; RECORDS], lists: &[u16], 
     facts[e.0 * FACT + HAS_MODEL] = elements[k + 4] as u8;
 }
 
-// The largest place of a name as it is kept where the model has an "&": 128 higher, if there is one.
+// The largest place of a name as it is kept where the model has an "&": higher by `RAISE`, if there is one.
 fn raised(p: u8) -> u8
     ensures { λ r. ⌜ (p ≤ GRPGTCNT → r ≡ raisedPlace true p) ⌝ }
 {

@@ -26,14 +26,14 @@ mem-again s p q h = bool-cases (mem s q) (λ e. mem-left s (p ∷ []) q e ∙ sy
     there y = or-cases (eqb p q) false (λ x. subst (λ (r : ℕ). mem s r ≡ true) (eqb-true p q x) h) (λ x. absurd (false≢true x)) y
 
 pub again-itself : (o : Open) → Again o o
-again-itself o = record { number = refl; ends = λ u h. h; last = refl; same = refl }
+again-itself o = record { element = refl; ends = λ u h. h; last = refl; same = refl }
 
 -- The place is taken once more.
 pub again-took : {o v : Open} → Again o v → (p : ℕ) → 1 ≤ p → lastOr0 (o .taken) ≡ p → mem (o .taken) p ≡ true → Again o (took v p)
 again-took {o} {v} a p l e m =
     let there : mem (v .taken) p ≡ true = ap (λ (S : ℕ → Bool). S p) (a .same) ∙ m in
     record {
-      number = a .number;
+      element = a .element;
       ends = λ u h. subst (IsLast (v .taken ++ p ∷ [])) (sym e ∙ last-is (o .taken) u h) (last-taken (v .taken) p l);
       last = lastOr0-snoc (v .taken) p ∙ sym e;
       same = (λ i q. mem-again (v .taken) p q there i) ∙ a .same;
@@ -44,7 +44,7 @@ again-took {o} {v} a p l e m =
 module _ {o v : Open} (a : Again o v) where
   pub again-fits : (s : List ℕ) (es : List Element) (t : Token) → fitting s es (decided s es) v t ≡ fitting s es (decided s es) o t
   unfolding fitsIn
-  again-fits s es t = ap (λ (k : ℕ). fitsIn s es (contentOf es k) (v .taken) t) (a .number) ∙ go (contentOf es (o .number))
+  again-fits s es t = ap (λ (k : ℕ). fitsIn s es (contentOf es k) (v .taken) t) (a .element) ∙ go (contentOf es (o .element))
     where
       go : (c : Content) → fitsIn s es c (v .taken) t ≡ fitsIn s es c (o .taken) t
       go empty = refl

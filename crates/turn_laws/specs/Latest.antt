@@ -139,7 +139,7 @@ ends-first z w y e i q r =
 
 pub ended-behind : {s : List ℕ} {es : List Element} {D : Decisions} {at : ℕ} {z y : State} → Ended s es D at z y → EndsBehind z y
 ended-behind {z = z} all-ended = record { ends = []; are = none; adds = sym (append-nil (z .events)); none = λ e. refl }
-ended-behind {at = at} {z} {y} (ends-then u us e c o r) = ends-first z (state u us (z .events ++ endInferred (z .current .number) at ∷ [])) y (endInferred (z .current .number) at) refl refl (ended-behind r)
+ended-behind {at = at} {z} {y} (ends-then u us e c o r) = ends-first z (state u us (z .events ++ endInferred (z .current .element) at ∷ [])) y (endInferred (z .current .element) at) refl refl (ended-behind r)
 
 -- What was due stands, and the ends behind it.
 pub end-settles : {c : Settings} {s : List ℕ} {es : List Element} {d : List ℕ} {at : ℕ} {l : Line} {z : State} → Reaches c s es d at l z → (b : List Event) → endDocument s es (decided s es) (length d) z ≡ got (z .events ++ b)

@@ -79,7 +79,7 @@ module _ (s : List ℕ) (es : List Element) (D : Decisions) where
 -- The outermost of the open elements is the document itself.
 
 abbrev pub bottom : Open → List Open → ℕ
-bottom o [] = o .number
+bottom o [] = o .element
 bottom o (u ∷ around) = bottom u around
 
 abbrev Bottomed : State → Type 0

@@ -147,15 +147,15 @@ module _ {given : Settings} (c : Settings) (s : List ℕ) (es : List Element) (a
   unfolding taken
   data-fits =
       let o = after .place in
-      ap (λ (v : Open). fitting s es D v pcdata) (after .current) ∙ pcdata-stays s es accepted (o .number) (after .begun .has) (o .taken) (after .begun .begins) (after .fits)
+      ap (λ (v : Open). fitting s es D v pcdata) (after .current) ∙ pcdata-stays s es accepted (o .element) (after .begun .has) (o .taken) (after .begun .begins) (after .fits)
 
   some : 1 ≤ taken
   unfolding taken
   some = after .fits
 
   -- So it is no data of the document itself.
-  in-element : (v : Open) → Again (x .current) v → eqb (v .number) 0 ≡ false
-  in-element v a = ne-eqb (v .number) 0 (λ e. go (x .current .number) (sym (a .number) ∙ e) data-fits)
+  in-element : (v : Open) → Again (x .current) v → eqb (v .element) 0 ≡ false
+  in-element v a = ne-eqb (v .element) 0 (λ e. go (x .current .element) (sym (a .element) ∙ e) data-fits)
     where
       go : (k : ℕ) → k ≡ 0 → decided s es .fits k (x .current .taken) pcdata ≡ taken → ⊥
       go zero e q = omega (arith, q, some, document-once s es pcdata (x .current .taken) (omega (arith, data-last, some)))
@@ -226,9 +226,9 @@ module _ {given : Settings} (c : Settings) (s : List ℕ) (es : List Element) (a
 
   -- A run is taken in an element, so that one is open behind it.
   pub run-within : (v : Open) → Again (x .current) v → {i : ℕ} {k : Line} {ev : List Event} → Passes c s es D d i k (state v (x .around) ev) → x .around ≡ [] → ⊥
-  run-within v a {i} {k} {ev} p none = false≢true (sym (in-element v a) ∙ eq-eqb (v .number) 0 outermost)
+  run-within v a {i} {k} {ev} p none = false≢true (sym (in-element v a) ∙ eq-eqb (v .element) 0 outermost)
     where
-      outermost : v .number ≡ 0
+      outermost : v .element ≡ 0
       outermost = rw none at (passes-bottom s es D d p)
 
 -- What a run taken at once says of its first byte

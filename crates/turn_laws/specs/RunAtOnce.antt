@@ -41,12 +41,12 @@ joins at (e ∷ f ∷ ev) = joins at (f ∷ ev)
 
 -- The current element takes one place more.
 abbrev pub took : Open → ℕ → Open
-took o p = record { number = o .number; taken = o .taken ++ p ∷ [] }
+took o p = record { element = o .element; taken = o .taken ++ p ∷ [] }
 
 -- The open element v is o, but that its last place may have been taken again: each byte of a run of data takes the same place. The last of the places
 -- taken and the set of them are as they were.
 pub record Again (o v : Open) : Type 0 where
-  pub number : v .number ≡ o .number
+  pub element : v .element ≡ o .element
   pub ends : (u : ℕ) → IsLast (o .taken) u → IsLast (v .taken) u
   pub last : lastOr0 (v .taken) ≡ lastOr0 (o .taken)
   pub same : mem (v .taken) ≡ mem (o .taken)

@@ -18,7 +18,7 @@ use Rattle.turn_laws.specs.RunAtOnce.{takeRun}
 module _ (s : List ℕ) (es : List Element) (D : Decisions) where
   -- A token that fits
 
-  pub settle-fits : (t : Token) (at : ℕ) (z : State) → eqb (z .current .number) 0 ≡ false → leb 1 (fitting s es D (z .current) t) ≡ true → settle s es D t at z ≡ got (takeToken s es D t z)
+  pub settle-fits : (t : Token) (at : ℕ) (z : State) → eqb (z .current .element) 0 ≡ false → leb 1 (fitting s es D (z .current) t) ≡ true → settle s es D t at z ≡ got (takeToken s es D t z)
   settle-fits t at z e h = settle-on s es D t at z (ap (λ (b : Bool). b && isComplete s es D (z .current)) e) ∙ settleFrom-fits s es D t at (z .around) (z .current) (z .events) h
 
   -- Data: a byte, and a run that begins with it, are refused alike, or both are taken.

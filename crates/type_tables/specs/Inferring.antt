@@ -34,7 +34,7 @@ may es p k = leb 1 p && (leb 1 k && (startO es k && hasModel (contentOf es k)))
 
 -- An open element by its number and the places taken.
 abbrev pub opened : ℕ → List ℕ → Open
-opened e taken = record { number = e; taken = taken }
+opened e taken = record { element = e; taken = taken }
 
 -- The place p is required in the element number e after these places.
 pub record Requires (s : List ℕ) (es : List Element) (e p : ℕ) (taken : List ℕ) : Type 0 where
@@ -46,7 +46,7 @@ pub record Requires (s : List ℕ) (es : List Element) (e p : ℕ) (taken : List
 pub infers-by : (places facts : List ℕ) (e p r : ℕ) → ((s : List ℕ) (es : List Element) (rows M taken : List ℕ) → Tables s es rows places facts M → Requires s es e p taken → r ≡ inferable s es (decided s es) (opened e taken)) →
     (s : List ℕ) (es : List Element) (rows M : List ℕ) → Tables s es rows places facts M → (o : Open) (begun : List ℕ) (level u : ℕ) → Entered es M begun level e u o → p ≡ requiredPlace s es (decided s es) o → r ≡ inferable s es (decided s es) o
 infers-by places facts e p r f s es rows M tables o begun level u entered required =
-    let is : o ≡ opened e (o .taken) = λ i. record { number = entered .number i; taken = o .taken } in
+    let is : o ≡ opened e (o .taken) = λ i. record { element = entered .number i; taken = o .taken } in
     let needs : p ≡ requiredPlace s es (decided s es) (opened e (o .taken)) = required ∙ ap (requiredPlace s es (decided s es)) is in
     f s es rows M (o .taken) tables (record { declared = entered .declared; within = omega (arith, needs, required-most s es (tables .accepted) e (o .taken) (λ g ps n c. entered .begins c)); required = needs }) ∙ ap (inferable s es (decided s es)) (sym is)
 

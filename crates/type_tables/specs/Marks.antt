@@ -34,9 +34,9 @@ use Rattle.type_tables.specs.Ranges.{Modelled, modelled, width-most, req
 
 -- The open element with the place p taken.
 abbrev pub taking : ℕ → Open → Open
-taking p o = record { number = o .number; taken = o .taken ++ p ∷ [] }
+taking p o = record { element = o .element; taken = o .taken ++ p ∷ [] }
 
--- The marks as they are kept where `take` of and_groups answers r: 255 where no group blocks.
+-- The marks as they are kept where `take` of and_groups answers r: `FREE` where no group blocks.
 abbrev pub completeBy : (r : ℕ) → Bool → Bool
 completeBy r b = cond (eqb r FREE) b false
 
@@ -46,7 +46,7 @@ requiredBy r kept = cond (eqb r FREE) (kept - RAISE) r
 -- An element whose model is g
 
 module _ (es : List Element) (M begun : List ℕ) (level e u : ℕ) (o : Open) {g : Group} {ps : List Place} {n : ℕ} (content : contentOf es e ≡ model g ps n) where
-  entered-by : o .number ≡ e → e ≤ length es → u ≤ width es e → Begins g (o .taken) → Standing begun level M e g u (o .taken) → Entered es M begun level e u o
+  entered-by : o .element ≡ e → e ≤ length es → u ≤ width es e → Begins g (o .taken) → Standing begun level M e g u (o .taken) → Entered es M begun level e u o
   entered-by i d l b s =
       record {
         number = i;

@@ -61,7 +61,7 @@ abbrev pub requiredRow : Content → ℕ → ℕ
 requiredRow empty u = 0
 requiredRow (model g ps n) u = requiredIn g u
 
--- A number of a model with an "&" is kept 128 higher: the required place after a place, and the largest place of a name.
+-- A number of a model with an "&" is kept higher by `RAISE`: the required place after a place, and the largest place of a name.
 abbrev pub raisedAt : Bool → (u n : ℕ) → ℕ
 raisedAt b zero n = n
 raisedAt b (suc u) n = cond b (RAISE + n) n
@@ -82,7 +82,7 @@ pub record Rows (es : List Element) (raised : ℕ → Bool) (rows : List ℕ) : 
   pub complete : (e u : ℕ) → e ≤ length es → u ≤ width es e → completeAt rows e u ≡ completeRow (contentOf es e) u
   pub required : (e u : ℕ) → e ≤ length es → u ≤ width es e → getD rows (rowAt e u + REQUIRED) 0 ≡ raisedAt (raised e) u (requiredRow (contentOf es e) u)
 
--- What the place p of a model names: an element, 255 for `#PCDATA`, 0 if that is not declared.
+-- What the place p of a model names: an element, `PCDATA`, 0 if that is not declared.
 abbrev pub namedBy : List ℕ → List Element → List Place → ℕ → ℕ
 namedBy s es ps p = cond (eqb (placeAt ps (p - 1) .size) 0) PCDATA (numberOf s es s (placeAt ps (p - 1) .at) (placeAt ps (p - 1) .size))
 
@@ -122,7 +122,7 @@ pub record Tables (s : List ℕ) (es : List Element) (rows places facts M : List
 -- The element number e, of which u is the place that was taken last, 0 for none, stands for the rules' open element o: the places taken begin a walk, u is
 -- the last of them, and the bits of the level are those of the members that have begun.
 pub record Entered (es : List Element) (M begun : List ℕ) (level e u : ℕ) (o : Open) : Type 0 where
-  pub number : o .number ≡ e
+  pub number : o .element ≡ e
   pub declared : e ≤ length es
   pub place : u ≤ width es e
   pub begins : {g : Group} {ps : List Place} {n : ℕ} → contentOf es e ≡ model g ps n → Begins g (o .taken)
@@ -133,5 +133,5 @@ pub record CanTake (es : List Element) (o : Open) (p : ℕ) : Type 0 where
   pub group : Group
   pub places : List Place
   pub tokens : ℕ
-  pub content : contentOf es (o .number) ≡ model group places tokens
+  pub content : contentOf es (o .element) ≡ model group places tokens
   pub next : MayComeNext group (o .taken) p

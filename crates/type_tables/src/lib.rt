@@ -3,14 +3,14 @@
 // Elements have the numbers 1 to 64, in declaration order; 0 stands for the document itself, whose model is the one
 // place of the document element. A name is an element's number, or 0 for `#PCDATA`.
 //
-// `rows`: for each element 97 rows of 14 numbers. Row 0 is the start, row u is after the place u. The bits of the first 13
-// numbers say, bit 0 whether the content is complete, bit p whether the place p may come next. Number 13 is the required
+// `rows`: for each element `POSITIONS` rows of `ROW` numbers. Row 0 is the start, row u is after the place u. The bits of the
+// numbers before `REQUIRED` say, bit 0 whether the content is complete, bit p whether the place p may come next. That number is the required
 // place, or 0. An EMPTY element's content is complete at its start.
 //
-// `places`: for each element 97 pairs. Of the place p: what it names (an element, 255 for `#PCDATA`, 0 if that is not
+// `places`: for each element `POSITIONS` pairs. Of the place p: what it names (an element, `PCDATA`, 0 if that is not
 // declared), and the next smaller place of the same name, or 0.
 //
-// `facts`: for each element 68 numbers. Number x is the largest place of the name x, or 0. Numbers 65, 66 and 67 are 1
+// `facts`: for each element `FACT` numbers. Number x is the largest place of the name x, or 0. The last three are 1
 // where the start may be omitted, the end may be omitted, and the content is a model.
 //
 // Whatever the tables hold, each function ends and stays within them. Where they are no type's, what `fitting`, `startable` and `inferable`
@@ -56,7 +56,7 @@ pub fn complete(rows: &[u8; ROWS], e: ElementNo, u: Place) -> bool
     rows[row_search::row(e, u)] % 2 == 1
 }
 
-// What the row of the element e after the place u has for the required place, or 0; 128 more where the model has an "&" and u is a place.
+// What the row of the element e after the place u has for the required place, or 0; `RAISE` more where the model has an "&" and u is a place.
 pub fn kept(rows: &[u8; ROWS], e: ElementNo, u: Place) -> usize
     requires { ⌜ (e .0 ≤ elementLimit) × (u .0 ≤ GRPGTCNT) ⌝ }
     ensures { λ r. ⌜ (r ≡ getD (now (rows .entry)) (rowAt (e .0) (u .0) + REQUIRED) 0) × (r ≤ 255) ⌝ }
@@ -153,7 +153,7 @@ pub fn takes_data(
     q.0 != 0
 }
 
-// The place that a number of the facts is, 128 higher where the model has an "&"; 0 where it is none.
+// The place that a number of the facts is, higher by `RAISE` where the model has an "&"; 0 where it is none.
 fn lowered(p: usize) -> Place
     ensures { λ r. ⌜ Lowered p (r .0) ⌝ }
 {
@@ -203,7 +203,7 @@ pub fn startable(places: &[u8; PLACES], facts: &[u8; FACTS], e: ElementNo, p: Pl
     if GRPGTCNT < p.0 {
         return none;
     }
-    // What the place names is an element, 255 for `#PCDATA`, or 0 if that is not declared.
+    // What the place names is an element, `PCDATA`, or 0 if that is not declared.
     let k = ElementNo(numbers::wide(places[(e.0 * POSITIONS + p.0) * LINK]));
     if k.0 == 0 {
         return none;

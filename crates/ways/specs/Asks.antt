@@ -14,7 +14,7 @@ use Rattle.rules.specs.Settling as rules
 use Rattle.layout.specs.Typed.{placeNo}
 use Rattle.document_laws.specs.Decide.{decided}
 use Rattle.type_tables.specs.Tables.{nameNumber, Declares, Facts, Entered}
-use Rattle.open_elements.specs.declared.Open.{Open}
+use Rattle.open_elements.specs.declared.OpenElements.{OpenElements}
 use Rattle.open_elements.specs.Stands.{Stands}
 use Rattle.ways.specs.declared.Way.{Way}
 use Rattle.ways.specs.declared.Way.the-variants.{Taken, Inferred, Stuck}
@@ -46,7 +46,7 @@ module _ (s : List ℕ) (es : List Element) (D : Decisions) where
   -- Step 3: the content is complete, the end is "O", and the parent is not the document itself.
   abbrev pub mayEnd : rules.Open → List rules.Open → Bool
   mayEnd o [] = false
-  mayEnd o (u ∷ us) = isComplete s es D o && (endO es (o .number) && leb 1 (u .number))
+  mayEnd o (u ∷ us) = isComplete s es D o && (endO es (o .element) && leb 1 (u .element))
 
 -- The element e stands for the rules' open element o, in which the place q is required, or none where q is 0.
 pub record Requires (s : List ℕ) (es : List Element) (M : List ℕ) (e q : ℕ) (o : rules.Open) : Type 0 where
@@ -57,7 +57,7 @@ pub record Requires (s : List ℕ) (es : List Element) (M : List ℕ) (e q : ℕ
   pub required : q ≡ rules.requiredPlace s es (decided s es) o
 
 -- Whether the end of the current element is inferred.
-abbrev pub MayEnd : (facts : List ℕ) → Open → Bool → Type 0
+abbrev pub MayEnd : (facts : List ℕ) → OpenElements → Bool → Type 0
 MayEnd facts o b =
     (s : List ℕ) (es : List Element) (raised : ℕ → Bool) → Facts s es raised facts → (M begun : List ℕ) (z : rules.State) → Stands es M begun o z → b ≡ mayEnd s es (decided s es) (z .current) (z .around)
 

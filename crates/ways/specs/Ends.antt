@@ -11,17 +11,17 @@ use Rattle.rules.specs.Elements.{contentOf, endO}
 use Rattle.rules.specs.Settling.{State, isOver}
 use Rattle.rules.specs.Settling as rules
 use Rattle.document_laws.specs.Decide.{isCompleteIn, decided}
-use Rattle.open_elements.specs.declared.Open.{Open}
+use Rattle.open_elements.specs.declared.OpenElements.{OpenElements}
 use Rattle.open_elements.specs.Stands.{ended, Stands}
 use Rattle.open_elements.specs.Methods.{stands-element, stands-around, stands-alone}
 use Rattle.ways.specs.Asks.{mayEnd}
 
 -- By a parent, and by the number and the mark that are kept.
-ends-by : (s : List ℕ) (es : List Element) (v u : rules.Open) (us others : List rules.Open) {k j : ℕ} {b : Bool} → us ≡ u ∷ others → v .number ≡ k → u .number ≡ j → b ≡ isCompleteIn (contentOf es k) (v .taken)
+ends-by : (s : List ℕ) (es : List Element) (v u : rules.Open) (us others : List rules.Open) {k j : ℕ} {b : Bool} → us ≡ u ∷ others → v .element ≡ k → u .element ≡ j → b ≡ isCompleteIn (contentOf es k) (v .taken)
     → mayEnd s es (decided s es) v us ≡ b && (endO es k && leb 1 j)
 ends-by s es v u us others e i l m = rw (e, i, l, m)
 
-module _ (s : List ℕ) {es : List Element} {M begun : List ℕ} {o : Open} {z : State} (stands : Stands es M begun o z) where
+module _ (s : List ℕ) {es : List Element} {M begun : List ℕ} {o : OpenElements} {z : State} (stands : Stands es M begun o z) where
   -- The document is over where nothing is open and its content is complete.
   pub over-says : (eqb (o .element .0) 0 && o .complete) ≡ isOver s es (decided s es) z
   over-says = rw (stands .current .entered .number) (ap (λ b. eqb (o .element .0) 0 && b) (stands .current .complete))

@@ -11,7 +11,7 @@ use layout::PLACES;
 use layout::Place;
 use layout::ROWS;
 use layout::TAGLVL;
-use open_elements::Open;
+use open_elements::OpenElements;
 ghost use mathlib.Core.Path.{_≡_};
 ghost use mathlib.Core.Bool.{Bool, true, false, _&&_};
 ghost use mathlib.Core.List.{List, []};
@@ -97,7 +97,7 @@ pub fn way_at(
 
 // Whether step 3 infers the current element's end: its content is complete, its end is "O" and it is not the document
 // element. The document alone lies around the document element.
-pub fn may_end(facts: &[u8; FACTS], o: Open) -> bool
+pub fn may_end(facts: &[u8; FACTS], o: OpenElements) -> bool
     requires { ⌜ o .element .0 ≤ elementLimit ⌝ }
     ensures { λ r. ⌜ MayEnd (now (facts .entry)) o r ⌝ }
     ensures { λ r. ⌜ (r ≡ true → (1 < o .count) × (o .complete ≡ true)) ⌝ }
@@ -167,7 +167,7 @@ pub fn opens(facts: &[u8; FACTS], x: ElementNo) -> bool
 }
 
 // Whether the document element was there and has ended: the document itself is the current element, and it is complete.
-pub fn is_over(o: Open) -> bool
+pub fn is_over(o: OpenElements) -> bool
     ensures { λ r. ⌜ r ≡ (eqb (o .element .0) 0 && o .complete) ⌝ }
 {
     let e = o.element;

@@ -6,7 +6,7 @@ use mathlib.Core.Logic.{⊎-elim}
 use native.Mathlib.Omega.{arith}
 use borrow.Author.Needs.{needs}
 use borrow.Author.Tests.{not-true, not-false}
-use Rattle.open_elements.specs.declared.Open.{Open}
+use Rattle.open_elements.specs.declared.OpenElements.{OpenElements}
 use Rattle.inferring.specs.Inferring.{Turns}
 use Rattle.inferring.specs.Ends.{turns-start, turns-end}
 use Rattle.inferring.proofs.ends.Statement.{statement}
@@ -61,7 +61,7 @@ infer-end-requires c κs =
 loop-less : tie.Need-loop-less Inv-loop μ-loop
 loop-less c =
     let ends = at-put-event (c .before .before) .before .before .before in
-    omega (arith, ap (λ (o : Open). o .count) (c .infer-end .ensures), goes-on ends .0)
+    omega (arith, ap (λ (o : OpenElements). o .count) (c .infer-end .ensures), goes-on ends .0)
 
 loop-again : tie.Need-loop-again Inv-loop μ-loop
 loop-again c =

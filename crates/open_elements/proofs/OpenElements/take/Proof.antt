@@ -5,8 +5,8 @@ use borrow.Author.Needs.{needs}
 use Rattle.layout.specs.declared.Place.{Place}
 use Rattle.open_elements.specs.Methods.{taking-by}
 use Rattle.open_elements.specs.Taken.{marking-same, marking-plain, marking-among}
-use Rattle.open_elements.proofs.Open.take.Statement.{statement}
-use Rattle.open_elements.proofs.Open.take.Tie as tie
+use Rattle.open_elements.proofs.OpenElements.take.Statement.{statement}
+use Rattle.open_elements.proofs.OpenElements.take.Tie as tie
 
 kept-requires : tie.Need-kept-requires
 kept-requires c κs = search needs

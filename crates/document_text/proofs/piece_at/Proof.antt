@@ -1,10 +1,10 @@
--- `token_at` meets its contract: each way by the tests that led there.
+-- `piece_at` meets its contract: each way by the tests that led there.
 use mathlib.Core.Path.{sym, _∙_}
 use lib.ListN.{length}
 use borrow.Author.Needs.{needs}
 use Rattle.document_text.specs.Ways.{piece-markup, piece-reference, piece-section, piece-byte, byte-no-start, meets-other}
-use Rattle.document_text.proofs.token_at.Statement.{statement}
-use Rattle.document_text.proofs.token_at.Tie as tie
+use Rattle.document_text.proofs.piece_at.Statement.{statement}
+use Rattle.document_text.proofs.piece_at.Tie as tie
 
 byte-requires : tie.Need-byte-requires
 byte-requires c κs = search needs
@@ -53,8 +53,8 @@ returns-4 c =
     meets-other (length (a .s .now)) (a .given .now) (c .byte-at .result) (c .byte-at .ensures) (byte-no-start (a .s .now) (a .i))
     (piece-byte (a .long) (a .s .now) (a .i) (λ x. l .if1 .left (b .byte .ensures ∙ x)) (sym (r .before .is-reference .ensures) ∙ r .if2 .left) (sym (e .before .is-section-end .ensures) ∙ e .if3 .left))
 
-pub token-at-spec : {M : Type 1} → statement M
-token-at-spec =
+pub piece-at-spec : {M : Type 1} → statement M
+piece-at-spec =
     tie.close
     (tie.spec
     byte-requires

@@ -1,8 +1,8 @@
 -- `start` meets its contract: the current element is kept, and the marks are those of the start of the one that is opened.
 use Rattle.open_elements.specs.Methods.{opening-by}
 use borrow.Author.Needs.{needs}
-use Rattle.open_elements.proofs.Open.start.Statement.{statement}
-use Rattle.open_elements.proofs.Open.start.Tie as tie
+use Rattle.open_elements.proofs.OpenElements.start.Statement.{statement}
+use Rattle.open_elements.proofs.OpenElements.start.Tie as tie
 
 -- The point that the needs go back to.
 abbrev at-start : (c : tie.After-of) → tie.Start

@@ -1,4 +1,4 @@
--- `piece_at` meets its contract: by the token that stands there.
+-- `found_at` meets its contract: by the token that stands there.
 use mathlib.Core.Path.{_≡_, refl, sym, _∙_}
 use mathlib.Core.Logic.{⊎-elim}
 use mathlib.Core.List.{List}
@@ -16,14 +16,14 @@ use Rattle.record_ends.specs.Held.{lineOf}
 use Rattle.pieces.specs.Finds.{skips, runs, malformed}
 use Rattle.pieces.specs.Pieces.{start-tag-asked, end-tag-asked, list-held, finds-start, finds-misgiven, marks-start, finds-end, finds-undeclared-start, finds-undeclared-end, finds-separator, since-last, finds-ignored, finds-blank-run, finds-data-run, onward-start, onward-end, onward-skipped, onward-run, onward-refused}
 use borrow.Author.Needs.{needs}
-use Rattle.pieces.proofs.piece_at.Statement.{statement}
-use Rattle.pieces.proofs.piece_at.Tie as tie
+use Rattle.pieces.proofs.found_at.Statement.{statement}
+use Rattle.pieces.proofs.found_at.Tie as tie
 
 -- The points that the needs go back to.
 abbrev at-start-3 : (c : tie.After-shared-slice-known4) → tie.Start
 at-start-3 c = c .before .before .before .before
 
-abbrev at-start : (c : tie.After-token-at) → tie.Start
+abbrev at-start : (c : tie.After-piece-at) → tie.Start
 at-start c = at-start-3 (c .before .before)
 
 abbrev at-start-4 : (c : tie.After-t2) → tie.Start
@@ -44,16 +44,16 @@ at-else1 c = c .before .before .before
 -- A start tag stands there, which gives these attributes, or an end tag.
 start-stands : (c : tie.After-known-told) →
     let start = at-start-2 c in
-    (ws : List Written) × (piece (start .args .long) (start .args .d .now) (start .args .at) ≡ got (startTag (tagWith ws (c .before .t .given .0 .0)))) × ReadAs (length (start .args .d .now)) (c .before .before .before .token-at .last .1 .1 .1 .1 .0) (c .before .t .given .0 .0 .given) ws
-start-stands c = token-start (length (at-start-2 c .args .d .now)) (c .before .before .before .token-at .last .1 .1 .1 .1 .0) (c .before .before .before .token-at .result) _ (c .before .before .before .token-at .ensures) (c .before .t .given .1)
+    (ws : List Written) × (piece (start .args .long) (start .args .d .now) (start .args .at) ≡ got (startTag (tagWith ws (c .before .t .given .0 .0)))) × ReadAs (length (start .args .d .now)) (c .before .before .before .piece-at .last .1 .1 .1 .1 .0) (c .before .t .given .0 .0 .given) ws
+start-stands c = token-start (length (at-start-2 c .args .d .now)) (c .before .before .before .piece-at .last .1 .1 .1 .1 .0) (c .before .before .before .piece-at .result) _ (c .before .before .before .piece-at .ensures) (c .before .t .given .1)
 
 end-stands : (c : tie.After-known-told2) →
     let start = at-start (c .before .before .before) in
     piece (start .args .long) (start .args .d .now) (start .args .at) ≡ got (endTag (tagIn (c .before .t2 .given .0 .0)))
-end-stands c = token-end (length (at-start (c .before .before .before) .args .d .now)) (c .before .before .before .token-at .last .1 .1 .1 .1 .0) (c .before .before .before .token-at .result) _ (c .before .before .before .token-at .ensures) (c .before .t2 .given .1)
+end-stands c = token-end (length (at-start (c .before .before .before) .args .d .now)) (c .before .before .before .piece-at .last .1 .1 .1 .1 .0) (c .before .before .before .piece-at .result) _ (c .before .before .before .piece-at .ensures) (c .before .t2 .given .1)
 
-token-at-requires : tie.Need-token-at-requires
-token-at-requires c κs = search needs
+piece-at-requires : tie.Need-piece-at-requires
+piece-at-requires c κs = search needs
 
 enum-known-t : tie.Need-enum-known-t
 enum-known-t c = search needs
@@ -93,7 +93,7 @@ returns-2 c =
       tt,
       λ es i t l o r n.
           let q = else1 .before .before .tagged .ensures .0 es i in
-          let held = list-held (settings (a .long) (a .edition)) (a .s .now) es (a .d .now) (a .at) (lineOf (a .since) (a .mark)) o q e (else1 .if1 .left) _ _ (a .lists .now) (known-told .before .before .before .token-at .last .1 .1 .1 .1 .0) _ i l (k .kept) (c .before .before .held .ensures) in
+          let held = list-held (settings (a .long) (a .edition)) (a .s .now) es (a .d .now) (a .at) (lineOf (a .since) (a .mark)) o q e (else1 .if1 .left) _ _ (a .lists .now) (known-told .before .before .before .piece-at .last .1 .1 .1 .1 .0) _ i l (k .kept) (c .before .before .held .ensures) in
           (finds-misgiven (settings (a .long) (a .edition)) (a .s .now) es (a .d .now) (a .at) (lineOf (a .since) (a .mark)) o q e (else1 .if1 .left) held (c .if2 .taken), tt),
     )
 
@@ -107,7 +107,7 @@ returns-3 c =
       onward-start (a .d .now) (a .at) (start .pre .5) (else1 .before .before .tagged .ensures .1) (a .long) e,
       λ es i t l o r n.
           let q = else1 .before .before .tagged .ensures .0 es i in
-          let held = list-held (settings (a .long) (a .edition)) (a .s .now) es (a .d .now) (a .at) (lineOf (a .since) (a .mark)) o q e (else1 .if1 .left) _ _ (a .lists .now) (known-told .before .before .before .token-at .last .1 .1 .1 .1 .0) _ i l (k .kept) (c .before .before .held .ensures) in
+          let held = list-held (settings (a .long) (a .edition)) (a .s .now) es (a .d .now) (a .at) (lineOf (a .since) (a .mark)) o q e (else1 .if1 .left) _ _ (a .lists .now) (known-told .before .before .before .piece-at .last .1 .1 .1 .1 .0) _ i l (k .kept) (c .before .before .held .ensures) in
           (finds-start (settings (a .long) (a .edition)) (a .s .now) es (a .d .now) (a .at) (lineOf (a .since) (a .mark)) o q e (else1 .if1 .left) held (omega arith), λ some. marks-start (settings (a .long) (a .edition)) (a .s .now) es (a .d .now) (a .at) (lineOf (a .since) (a .mark)) o q e (else1 .if1 .left) held (omega arith)),
     )
 
@@ -148,7 +148,7 @@ returns-6 : tie.Need-returns-6
 returns-6 c =
     let start = at-start (c .before .before .before) in
     let a = start .args in
-    let e = token-skipped (length (a .d .now)) (c .before .before .before .token-at .last .1 .1 .1 .1 .0) (c .before .before .before .token-at .result) _ (c .before .before .before .token-at .ensures) (c .before .t3 .given .1) in
+    let e = token-skipped (length (a .d .now)) (c .before .before .before .piece-at .last .1 .1 .1 .1 .0) (c .before .before .before .piece-at .result) _ (c .before .before .before .piece-at .ensures) (c .before .t3 .given .1) in
     (onward-skipped (a .d .now) (a .at) (start .pre .5) (a .long) e, λ es i t l o r n. (skips (under-skipped (settings (a .long) (a .edition)) (a .s .now) es (a .d .now) (a .at) (lineOf (a .since) (a .mark)) o e), tt))
 
 enum-known-t-4 : tie.Need-enum-known-t-4
@@ -157,7 +157,7 @@ enum-known-t-4 c = search needs
 returns-7 : tie.Need-returns-7
 returns-7 c =
     let a = at-start (c .before .before .before) .args in
-    let e = token-refused (length (a .d .now)) (c .before .before .before .token-at .last .1 .1 .1 .1 .0) (c .before .before .before .token-at .result) _ (c .before .before .before .token-at .ensures) (c .before .t4 .given .1) in
+    let e = token-refused (length (a .d .now)) (c .before .before .before .piece-at .last .1 .1 .1 .1 .0) (c .before .before .before .piece-at .result) _ (c .before .before .before .piece-at .ensures) (c .before .t4 .given .1) in
     (tt, λ es i t l o r n. (malformed (under-refused (settings (a .long) (a .edition)) (a .s .now) es (a .d .now) (a .at) (lineOf (a .since) (a .mark)) o e), tt))
 
 enum-told : tie.Need-enum-told
@@ -173,7 +173,7 @@ returns-8 : tie.Need-returns-8
 returns-8 c =
     let start = at-start (c .before .before .before .before) in
     let a = start .args in
-    let e = token-blank (length (a .d .now)) (c .before .before .before .before .token-at .last .1 .1 .1 .1 .0) (c .before .before .before .before .token-at .result) _ (c .before .before .before .before .token-at .ensures) (c .before .before .enum-told .given .1) in (
+    let e = token-blank (length (a .d .now)) (c .before .before .before .before .piece-at .last .1 .1 .1 .1 .0) (c .before .before .before .before .piece-at .result) _ (c .before .before .before .before .piece-at .ensures) (c .before .before .enum-told .given .1) in (
       (omega arith, omega (arith, start .pre .5)),
       λ es i t l o r n. (finds-separator (settings (a .long) (a .edition)) (a .s .now) es (a .d .now) _ _ _ _ _ (lineOf (a .since) (a .mark)) o (a .at) r (c .before .takes-data .ensures _ es t o r) e (not-true _ (c .if4 .taken)), tt),
     )
@@ -189,7 +189,7 @@ returns-9 : tie.Need-returns-9
 returns-9 c =
     let asked = c .before .before .before in
     let a = at-start (asked .before .before .before) .args in
-    let e = token-blank (length (a .d .now)) (asked .before .before .before .token-at .last .1 .1 .1 .1 .0) (asked .before .before .before .token-at .result) _ (asked .before .before .before .token-at .ensures) (asked .before .enum-told .given .1) in (
+    let e = token-blank (length (a .d .now)) (asked .before .before .before .piece-at .last .1 .1 .1 .1 .0) (asked .before .before .before .piece-at .result) _ (asked .before .before .before .piece-at .ensures) (asked .before .enum-told .given .1) in (
       (omega arith, omega (arith, at-start (asked .before .before .before) .pre .5)),
       λ es i t l o r n.
           let q = asked .takes-data .ensures _ es t o r in
@@ -214,19 +214,19 @@ returns-10 c =
       λ es i t l o r n. (
         ⊎-elim (λ w.
             let q = w .2 .ensures _ es t o r in
-            let e = token-blank (length (a .d .now)) (c .before .before .token-at .last .1 .1 .1 .1 .0) (c .before .before .token-at .result) _ (c .before .before .token-at .ensures) (w .1 .given .1) in
+            let e = token-blank (length (a .d .now)) (c .before .before .piece-at .last .1 .1 .1 .1 .0) (c .before .before .piece-at .result) _ (c .before .before .piece-at .ensures) (w .1 .given .1) in
             let so = since-last (settings (a .long) (a .edition)) (a .s .now) es (a .d .now) _ _ _ _ _ (lineOf (a .since) (a .mark)) o (a .at) r q e (not-false _ (w .3 .left)) n in
             runs refl (finds-blank-run (settings (a .long) (a .edition)) (a .s .now) es (a .d .now) _ _ _ _ _ (lineOf (a .since) (a .mark)) o (a .at) r q e (not-false _ (w .3 .left)) (sym (w .4 .ensures (a .long) o so) ∙ w .5 .left) (c .run-end .ensures)))
-            (λ w. runs refl (finds-data-run (token-data (length (a .d .now)) (c .before .before .token-at .last .1 .1 .1 .1 .0) (c .before .before .token-at .result) _ (c .before .before .token-at .ensures) (w .1 .given .1)) (c .run-end .ensures))) (c .before .match .came),
+            (λ w. runs refl (finds-data-run (token-data (length (a .d .now)) (c .before .before .piece-at .last .1 .1 .1 .1 .0) (c .before .before .piece-at .result) _ (c .before .before .piece-at .ensures) (w .1 .given .1)) (c .run-end .ensures))) (c .before .match .came),
         λ some. absurd (omega arith),
       ),
     )
 
-pub piece-at-spec : {M : Type 1} → statement M
-piece-at-spec =
+pub found-at-spec : {M : Type 1} → statement M
+found-at-spec =
     tie.close
     (tie.spec
-    token-at-requires
+    piece-at-requires
     enum-known-t
     tagged-requires
     undeclared-requires

@@ -1,8 +1,8 @@
 -- `end` meets its contract: the parent is read as it was kept.
 use Rattle.open_elements.specs.Methods.{ended-by}
 use borrow.Author.Needs.{needs}
-use Rattle.open_elements.proofs.Open.end.Statement.{statement}
-use Rattle.open_elements.proofs.Open.end.Tie as tie
+use Rattle.open_elements.proofs.OpenElements.end.Statement.{statement}
+use Rattle.open_elements.proofs.OpenElements.end.Tie as tie
 
 -- The point that the needs go back to.
 abbrev at-start : (c : tie.After-wide) → tie.Start

@@ -6,8 +6,8 @@ use borrow.Author.Needs.{needs}
 use Rattle.rules.specs.Settling.{isOpen}
 use Rattle.open_elements.specs.Methods.{open-here, open-past, open-none, open-entry, open-further}
 use Rattle.open_elements.specs.Stands.{aroundOf, bare}
-use Rattle.open_elements.proofs.Open.is_open.Statement.{statement}
-use Rattle.open_elements.proofs.Open.is_open.Tie as tie
+use Rattle.open_elements.proofs.OpenElements.is_open.Statement.{statement}
+use Rattle.open_elements.proofs.OpenElements.is_open.Tie as tie
 
 abbrev Inv-loop : tie.InvT-loop
 Inv-loop x around i₀ i = (i ≤ i₀) × (isOpen (x .0) (aroundOf around i₀) ≡ isOpen (x .0) (aroundOf around i))

@@ -7,8 +7,8 @@ use Rattle.layout.specs.declared.Place.{Place}
 use Rattle.open_elements.specs.Stands.{Taking}
 use Rattle.open_elements.specs.Methods.{taking-by, ranged-taking}
 use Rattle.open_elements.specs.Taken.{marking-same, marking-plain, marking-among}
-use Rattle.open_elements.proofs.Open.start_required.Statement.{statement}
-use Rattle.open_elements.proofs.Open.start_required.Tie as tie
+use Rattle.open_elements.proofs.OpenElements.start_required.Statement.{statement}
+use Rattle.open_elements.proofs.OpenElements.start_required.Tie as tie
 
 -- The point that the needs go back to.
 abbrev at-start : (c : tie.After-place) → tie.Start
