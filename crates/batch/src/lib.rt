@@ -16,12 +16,13 @@ use type_stage::Stage;
 ghost use mathlib.Core.Path.{_≡_};
 ghost use mathlib.Core.List.{List, []};
 ghost use Prim.Native.Nat.{ℕ, _+_, _*_, _≤_, _<_};
-ghost use lib.ListN.{length};
+ghost use lib.ListN.{length, replicate};
 ghost use Rattle.rules.specs.Lent.{Lent};
 ghost use Rattle.rules.specs.Settings.{settings};
 ghost use Rattle.rules.specs.Settings as rules;
 ghost use Rattle.rules.specs.Batch.{Unfit, AllRead, Batched, answerWidth, batchLimit};
 ghost use Rattle.rules.specs.Calls.{answerNumbers};
+ghost use Rattle.layout.specs.Sizes.{FACTS, INDEX, LISTS, MEMBERS, PLACES, ROWS};
 ghost use Rattle.inputs.specs.Checks.{settingsOf};
 ghost use Rattle.stretches.specs.Fit.{batchOf};
 ghost use Rattle.one_document.specs.Answer.{answerOf};
@@ -93,7 +94,44 @@ fn read_parts(
     }
 }
 
-// The documents of a batch whose lists are fit: the type is judged, and where it is accepted its tables are filled, once for all of them.
+// The type file is judged, and where it is accepted its tables are filled, once for all documents. All of them are 0 before.
+fn prepared(
+    c: Settings,
+    s: &[u8],
+    elements: &mut [u32; RECORDS],
+    index: &mut [u8; INDEX],
+    rows: &mut [u8; ROWS],
+    places: &mut [u8; PLACES],
+    facts: &mut [u8; FACTS],
+    members: &mut [u8],
+    lists: &mut [u16],
+) -> Stage
+    requires { ⌜ (now lists ≡ replicate LISTS 0) × (now index ≡ replicate INDEX 0) × (now members ≡ replicate MEMBERS 0) ⌝ }
+    requires { ⌜ (now rows ≡ replicate ROWS 0) × (now places ≡ replicate PLACES 0) × (now facts ≡ replicate FACTS 0) ⌝ }
+    ensures { λ r. ⌜ Ready (settingsOf c) (now (s .entry)) (now (elements .exit)) (now (index .exit)) (now (rows .exit)) (now (places .exit)) (now (facts .exit)) (now (members .exit)) (now (lists .exit)) r ⌝ }
+{
+    let mut heads = [0u16; ELEMENTS];
+    let g = type_stage::judged(c, s, elements, &mut heads);
+    let Stage::Accepted(n) = g else {
+        return g;
+    };
+    full_tables::fill(
+        c.name_length,
+        s,
+        elements,
+        &heads,
+        n,
+        lists,
+        index,
+        rows,
+        places,
+        facts,
+        members,
+    );
+    g
+}
+
+// The documents of a batch whose lists are fit, under what the type is judged to be.
 fn read_all(
     c: Settings,
     s: &[u8],
@@ -109,55 +147,27 @@ fn read_all(
     ensures { λ _. ⌜ AllRead Lent.bytes (settingsOf c) (now (s .entry)) (now (string .entry)) (batchOf (now (starts .entry)) (now (lengths .entry)) (now (froms .entry)) (now (sizes .entry)))
         (now (bytes .entry)) (now (answers .exit)) (now (bytes .exit)) ⌝ }
 {
-    let long = c.name_length;
     let mut elements = [0u32; RECORDS];
-    let mut heads = [0u16; ELEMENTS];
-    let g = type_stage::judged(c, s, &mut elements, &mut heads);
-    let mut lists = [0u16; LISTS];
     let mut index = [0u8; INDEX];
     let mut rows = [0u8; ROWS];
     let mut places = [0u8; PLACES];
     let mut facts = [0u8; FACTS];
     let mut members = [0u8; MEMBERS];
-    let Stage::Accepted(n) = g else {
-        read_parts(
-            g,
-            long,
-            c.edition,
-            s,
-            string,
-            starts,
-            lengths,
-            &elements,
-            &index,
-            &rows,
-            &places,
-            &facts,
-            &members,
-            &lists,
-            froms,
-            sizes,
-            bytes,
-            answers,
-        );
-        return;
-    };
-    full_tables::fill(
-        long,
+    let mut lists = [0u16; LISTS];
+    let g = prepared(
+        c,
         s,
-        &elements,
-        &heads,
-        n,
-        &mut lists,
+        &mut elements,
         &mut index,
         &mut rows,
         &mut places,
         &mut facts,
         &mut members,
+        &mut lists,
     );
     read_parts(
         g,
-        long,
+        c.name_length,
         c.edition,
         s,
         string,

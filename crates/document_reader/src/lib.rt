@@ -26,6 +26,7 @@ ghost use Rattle.inputs.specs.Checks.{settingsOf};
 ghost use Rattle.element_index.specs.Indexed.{Indexed};
 ghost use Rattle.list_table.specs.Lists.{Lists};
 ghost use Rattle.type_tables.specs.Tables.{Tables};
+ghost use Rattle.table_fill.specs.Told.{NoMembers};
 ghost use Rattle.document_events.specs.Loop.{EventsOf};
 ghost use Rattle.type_stage.specs.Stages.{JudgedHeads};
 ghost use Rattle.one_document.specs.Answer.{answerOf, CountFits, Judges, JudgedLists, Followed, Answers};
@@ -52,9 +53,56 @@ fn judged(
     }
 }
 
+// Fills the tables of an accepted type, whose n elements are recorded and whose attributes are in `lists`, and reads the document under them. The table of
+// members is all 0 before; a type without "&" may lend none.
+fn read_tabled(
+    long: usize,
+    edition: usize,
+    s: &[u8],
+    d: &[u8],
+    elements: &[u32; RECORDS],
+    lists: &[u16],
+    n: usize,
+    members: &mut [u8],
+    bytes: &mut [u8],
+) -> Counted
+    requires { ⌜ JudgedLists (settings long edition) (now s) (now elements) (now lists) n × (length (now d) ≤ documentLimit) × NoMembers (now s) (now members) ⌝ }
+    ensures { λ r. ⌜ Followed (settings long edition) (now (s .entry)) (now (d .entry)) [] [] (now (bytes .entry)) (now (bytes .exit)) r ⌝ }
+{
+    let mut index = [0u8; INDEX];
+    let mut rows = [0u8; ROWS];
+    let mut places = [0u8; PLACES];
+    let mut facts = [0u8; FACTS];
+    element_index::fill_index(s, elements, n, &mut index);
+    table_fill::fill(
+        long,
+        s,
+        elements,
+        lists,
+        n,
+        &index,
+        &mut rows,
+        &mut places,
+        &mut facts,
+        members,
+    );
+    one_document::follow(
+        long,
+        edition,
+        s,
+        d,
+        elements,
+        &index,
+        &rows,
+        &places,
+        &facts,
+        members,
+        lists,
+        bytes,
+    )
+}
+
 // Reads the document under an accepted type, whose n elements are recorded and whose attributes are in `lists`. A type without "&" needs no table of members.
-// Both branches fill and follow themselves: a function that does both is kept apart by the compiler from its callers, which know one of the two buffers to be
-// empty, and takes 3 % more instructions.
 fn read_listed(
     long: usize,
     edition: usize,
@@ -68,67 +116,12 @@ fn read_listed(
     requires { ⌜ JudgedLists (settings long edition) (now s) (now elements) (now lists) n × (length (now d) ≤ documentLimit) ⌝ }
     ensures { λ r. ⌜ Followed (settings long edition) (now (s .entry)) (now (d .entry)) [] [] (now (bytes .entry)) (now (bytes .exit)) r ⌝ }
 {
-    let mut index = [0u8; INDEX];
-    let mut rows = [0u8; ROWS];
-    let mut places = [0u8; PLACES];
-    let mut facts = [0u8; FACTS];
-    element_index::fill_index(s, elements, n, &mut index);
     if full_tables::holds_and(s) {
         let mut members = [0u8; MEMBERS];
-        table_fill::fill(
-            long,
-            s,
-            elements,
-            lists,
-            n,
-            &index,
-            &mut rows,
-            &mut places,
-            &mut facts,
-            &mut members,
-        );
-        return one_document::follow(
-            long,
-            edition,
-            s,
-            d,
-            elements,
-            &index,
-            &rows,
-            &places,
-            &facts,
-            &members,
-            lists,
-            bytes,
-        );
+        return read_tabled(long, edition, s, d, elements, lists, n, &mut members, bytes);
     }
     let mut none = [0u8; 0];
-    table_fill::fill(
-        long,
-        s,
-        elements,
-        lists,
-        n,
-        &index,
-        &mut rows,
-        &mut places,
-        &mut facts,
-        &mut none,
-    );
-    one_document::follow(
-        long,
-        edition,
-        s,
-        d,
-        elements,
-        &index,
-        &rows,
-        &places,
-        &facts,
-        &none,
-        lists,
-        bytes,
-    )
+    read_tabled(long, edition, s, d, elements, lists, n, &mut none, bytes)
 }
 
 // Reads the document under an accepted type, whose n elements are recorded and whose lists stand at `heads`. A type without attributes pays for no table of them.
@@ -154,6 +147,59 @@ fn read_under(
     read_listed(long, edition, s, d, elements, &none, n, bytes)
 }
 
+// The same to numbers, as the small program lends them. It fills all tables.
+fn numbered(
+    long: usize,
+    edition: usize,
+    s: &[u8],
+    d: &[u8],
+    elements: &[u32; RECORDS],
+    heads: &[u16; ELEMENTS],
+    n: usize,
+    numbers: &mut [u32],
+) -> Counted
+    requires { ⌜ JudgedHeads (settings long edition) (now s) (now elements) (now heads) n × (length (now d) ≤ documentLimit) ⌝ }
+    ensures { λ r. ⌜ Followed (settings long edition) (now (s .entry)) (now (d .entry)) (now (numbers .entry)) (now (numbers .exit)) [] [] r ⌝ }
+{
+    let mut lists = [0u16; LISTS];
+    let mut index = [0u8; INDEX];
+    let mut rows = [0u8; ROWS];
+    let mut places = [0u8; PLACES];
+    let mut facts = [0u8; FACTS];
+    let mut members = [0u8; MEMBERS];
+    full_tables::fill(
+        long,
+        s,
+        elements,
+        heads,
+        n,
+        &mut lists,
+        &mut index,
+        &mut rows,
+        &mut places,
+        &mut facts,
+        &mut members,
+    );
+    let classes = delimiters::class_table();
+    let mut none = [0u8; 0];
+    document_events::events_of(
+        long,
+        edition,
+        s,
+        elements,
+        &index,
+        &rows,
+        &places,
+        &facts,
+        &members,
+        &lists,
+        &classes,
+        d,
+        numbers,
+        &mut none,
+    )
+}
+
 // Judges the type and reads the document; a refusal zeroes nothing yet. Where it refuses, or the room is short, what the buffers hold is not
 // decided.
 fn answered(c: Settings, s: &[u8], d: &[u8], bytes: &mut [u8]) -> Answer
@@ -172,66 +218,23 @@ fn answered(c: Settings, s: &[u8], d: &[u8], bytes: &mut [u8]) -> Answer
     }
 }
 
-// Judges the type and reads the document to numbers, as the small program lends them; a refusal zeroes nothing yet. It fills all tables.
-fn numbered(c: Settings, s: &[u8], d: &[u8], numbers: &mut [u32]) -> Answer
-    ensures { λ r. ⌜ Answers (settingsOf c) (now (s .entry)) (now (d .entry)) (now (numbers .entry)) (now (numbers .exit)) [] [] r ⌝ }
-{
-    let mut elements = [0u32; RECORDS];
-    let mut heads = [0u16; ELEMENTS];
-    let v = judged(c, s, d, &mut elements, &mut heads);
-    let Answer::Accepted(n) = v else {
-        return v;
-    };
-    let long = c.name_length;
-    let mut lists = [0u16; LISTS];
-    let mut index = [0u8; INDEX];
-    let mut rows = [0u8; ROWS];
-    let mut places = [0u8; PLACES];
-    let mut facts = [0u8; FACTS];
-    let mut members = [0u8; MEMBERS];
-    full_tables::fill(
-        long,
-        s,
-        &elements,
-        &heads,
-        n,
-        &mut lists,
-        &mut index,
-        &mut rows,
-        &mut places,
-        &mut facts,
-        &mut members,
-    );
-    let classes = delimiters::class_table();
-    let mut none = [0u8; 0];
-    let r = document_events::events_of(
-        long,
-        c.edition,
-        s,
-        &elements,
-        &index,
-        &rows,
-        &places,
-        &facts,
-        &members,
-        &lists,
-        &classes,
-        d,
-        numbers,
-        &mut none,
-    );
-    match r {
-        Counted::Events(k) => Answer::Accepted(k),
-        Counted::Refused(f) => Answer::InDocument(f),
-    }
-}
-
 // Reads a document under a type file and the settings c. The buffer gets five numbers for each event, or is zeroed.
 pub fn read(c: Settings, s: &[u8], d: &[u8], buffer: &mut [u32]) -> Answer
     ensures { λ r. ⌜ ReadAs Lent.numbers (settingsOf c) (now (s .entry)) (now (d .entry)) (now (buffer .entry)) (answerOf r) (now (buffer .exit)) ⌝ }
     ensures { λ r. ⌜ CountFits r ⌝ }
 {
-    let v = numbered(c, s, d, buffer);
+    let mut elements = [0u32; RECORDS];
+    let mut heads = [0u16; ELEMENTS];
+    let t = judged(c, s, d, &mut elements, &mut heads);
+    let Answer::Accepted(n) = t else {
+        numbers::clear_numbers(buffer);
+        return t;
+    };
+    let r = numbered(c.name_length, c.edition, s, d, &elements, &heads, n, buffer);
+    let v = match r {
+        Counted::Events(k) => Answer::Accepted(k),
+        Counted::Refused(f) => Answer::InDocument(f),
+    };
     let a = one_document::fitted(v, buffer.len() / EVENT);
     if one_document::refuses(a) {
         numbers::clear_numbers(buffer);

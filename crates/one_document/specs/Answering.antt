@@ -74,6 +74,9 @@ module _ (c : Settings) (s d numbers numbersAfter bytes bytesAfter : List ℕ) w
   answers-refused elements heads (answer.Ambiguous x) h other = h
   answers-refused elements heads (answer.InDocument f) h other = h
 
+  pub answers-as : {v u : Answer} → v ≡ u → Answers c s d numbers numbersAfter bytes bytesAfter u → Answers c s d numbers numbersAfter bytes bytesAfter v
+  answers-as e h = rw e h
+
   module _ (es : List Element) (b : BothLegible c s d) (a : Accepts c s es) (r : Counted) (h : EventsOf c s es d numbers numbersAfter bytes bytesAfter r) where
     pub answers-events : (n : ℕ) → r ≡ counted.Events n → Answers c s d numbers numbersAfter bytes bytesAfter (answer.Accepted n)
     answers-events n e =
@@ -203,3 +206,12 @@ count-fits c s d numbers numbersAfter bytes bytesAfter room (answer.Accepted n) 
 count-fits c s d numbers numbersAfter bytes bytesAfter room (answer.InType f) a e = rw e tt
 count-fits c s d numbers numbersAfter bytes bytesAfter room (answer.Ambiguous x) a e = rw e tt
 count-fits c s d numbers numbersAfter bytes bytesAfter room (answer.InDocument f) a e = rw e tt
+
+-- A type that is refused, and nothing is read.
+pub read-unread : (c : Settings) (s d elements heads before cleared : List ℕ) (v : Answer) → Judges c s d elements heads v → ((n : ℕ) → v ≡ answer.Accepted n → ⊥) → cleared ≡ zeroed before
+    → ReadAs Lent.numbers c s d before (answerOf v) cleared × CountFits v
+read-unread c s d elements heads before cleared v j other z =
+    let most : ℕ = length before / eventWidth in
+    let h = answers-refused c s d before before [] [] elements heads v j other in
+    let e = fitted-other v most other in
+    (ReadAs.refuses (fitted-refused c s d before before [] [] most v v h e other (length before) refl) z, count-fits c s d before before [] [] most v h e)
