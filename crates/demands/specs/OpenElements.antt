@@ -87,7 +87,7 @@ use Rattle.moments.specs.Steps.{stops-lead, infers-start-does, placed-moment, p
 
 -- Demand 1, "keeps between 0 and 24 elements open", and what is kept of them lies in the array of 24 entries.
 abbrev pub KeepsFew : OpenElements → Type 0
-KeepsFew o = (o .count ≤ TAGLVL) × (length (o .around) ≡ 24)
+KeepsFew o = (o .count ≤ TAGLVL) × (length (o .around) ≡ TAGLVL)
 
 keeps-few : {o : OpenElements} → Ranged o → KeepsFew o
 keeps-few h = (h .few, h .whole)
