@@ -5,7 +5,6 @@ use Rattle.rules.specs.Bytes.{GRPCNT, GRPGTCNT, ATTCNT, TAGLVL, elementLimit}
 use Rattle.rules.specs.Judge.{recordWidth}
 use Rattle.rules.specs.Events.{eventWidth}
 use Rattle.rules.specs.Listing.{attributeWidth}
-use Rattle.rules.specs.Printed.{programRoom}
 
 -- Where one can stand in a content model: at its start, or after one of its places.
 abbrev pub POSITIONS : ℕ

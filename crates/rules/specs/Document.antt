@@ -4,7 +4,7 @@ use Prim.Native.Nat.{ℕ, zero, suc, _+_, _-_}
 use mathlib.Core.Bool.{Bool, true, false, _&&_, _||_}
 use mathlib.Core.List.{List, [], _∷_, _++_}
 use lib.ListN.{length}
-use lib.Dec.{eqb, leb, ltb}
+use lib.Dec.{eqb, ltb}
 use Rattle.rules.specs.Bytes.{byteAt, letter, nameEnd, separatorsEnd, TAB, RS, RE, SPACE, EXCLAMATION, AND, SOLIDUS, STAGO, VI, MDC, OPT, DSO, DSC}
 use Rattle.rules.specs.Reading.{Reading, refused, got, andThen}
 use Rattle.rules.specs.Attributes.{quote, isReference, literalEnd}

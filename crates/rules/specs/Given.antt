@@ -1,11 +1,10 @@
 -- The attributes of a start tag held against the list of its element, and the events that come before a start (paper 02, request one), with
 -- refusals 20, 22 and 21.
-use Prim.Native.Nat.{ℕ, zero, suc, _+_, _-_}
+use Prim.Native.Nat.{ℕ, _+_, _-_}
 use mathlib.Core.Bool.{Bool, true, false, not, _&&_, _||_}
 use mathlib.Core.List.{List, [], _∷_, _++_}
 use lib.ListN.{length}
 use lib.Dec.{eqb, leb}
-use Rattle.rules.specs.Bytes.{sameText}
 use Rattle.rules.specs.Reading.{Reading, refused, got, andThen}
 use Rattle.rules.specs.Attributes.{Part, bytesIn, Default, required, implied, literal, Attribute, isCalled, attributeOf, attributeAt, isRequired, fits}
 use Rattle.rules.specs.TypeFile.{Element, sameName}

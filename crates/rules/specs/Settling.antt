@@ -11,7 +11,7 @@ use Rattle.rules.specs.TypeFile.{Element}
 use Rattle.rules.specs.Judge.{placeAt}
 use Rattle.rules.specs.Elements.{numberOf, contentOf, placesIn, hasModel, startO, endO}
 use Rattle.rules.specs.Decisions.{Token, start, pcdata, Decisions}
-use Rattle.rules.specs.Events.{Event, startWritten, startInferred, endWritten, endInferred, dataRun, endOfEmpty, withData}
+use Rattle.rules.specs.Events.{Event, startWritten, startInferred, endWritten, endInferred, endOfEmpty, withData}
 
 -- Open elements
 

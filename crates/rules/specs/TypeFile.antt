@@ -5,7 +5,7 @@
 -- Reading goes from left to right and refuses at the first fault, the lower number first where two stand at one position.
 -- A byte at which no form goes on is the unfit one of number 4; past the end it is 0, so the position is then the length.
 use Prim.Native.Nat.{ℕ, zero, suc, _+_, _-_}
-use mathlib.Core.Bool.{Bool, true, false, not, _&&_, _||_}
+use mathlib.Core.Bool.{Bool, true, false, _&&_, _||_}
 use mathlib.Core.List.{List, [], _∷_, _++_}
 use lib.ListN.{length, drop}
 use lib.Dec.{eqb, leb, ltb}

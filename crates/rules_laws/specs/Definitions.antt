@@ -17,8 +17,8 @@ use Rattle.rules.specs.TypeFile.{gap, isWord, isCut, CDATA, NUMBER, NAME, REQUI
 use Rattle.text.specs.Words.{test-in, letter-in, nameEnd-from, nameEnd-le, nameEnd-more, separatorsEnd-from, separatorsEnd-le}
 use Rattle.rules_laws.specs.Holds.{Holds, stops, reads, known, so, on, either}
 use Rattle.rules_laws.specs.In.{All, none, more, all-snoc, NameIn}
-use Rattle.rules_laws.specs.Groups.{InType, InFrom, unfit-holds}
-use Rattle.rules_laws.specs.Gaps.{Onward, gap-within}
+use Rattle.rules_laws.specs.Groups.{InType, unfit-holds}
+use Rattle.rules_laws.specs.Gaps.{gap-within}
 use mathlib.Core.Bool.{Bool}
 use Rattle.rules.specs.Reading.{andThen}
 use Rattle.rules_laws.specs.Holds.{Gives, each, on-same}
