@@ -6,13 +6,12 @@ use mathlib.Core.List.{List}
 use native.Mathlib.Omega.{arith}
 use lib.ListN.{length, replicate}
 use Rattle.rules.specs.Settings.{Settings}
-use Rattle.rules.specs.Bytes.{elementLimit}
 use Rattle.rules.specs.Lent.{Lent, numbers, bytes, standing, room, filledWith, zeroed}
 use Rattle.rules.specs.Attributes.{AttList}
 use Rattle.rules.specs.TypeFile.{Element, attributesOf}
-use Rattle.rules.specs.Judge.{Answer, acceptance, recordWidth}
+use Rattle.rules.specs.Judge.{Answer, acceptance}
 use Rattle.rules.specs.Listing.{attributeWidth, Lists, refuses, noRoom, accepts}
-use Rattle.layout.specs.Sizes.{LIST}
+use Rattle.layout.specs.Sizes.{LIST, RECORDS}
 use Rattle.numbers.specs.Stores.{standing-fits}
 use Rattle.list_table.specs.Lists.{ListAt}
 use Rattle.list_table.specs.Lists as table
@@ -43,12 +42,12 @@ module _ (long : ℕ) (s heads lists : List ℕ) (n : ℕ) (filled : (ls : List 
 
 -- The judge's verdict, where it has room for all elements, and what is listed where it accepts.
 module _ (c : Settings) (s elements heads : List ℕ) (room : ℕ) (numbers bytes : List ℕ) where
-  pub decided-refused : (v : Verdict) → judge.Decides c s (recordWidth * elementLimit) elements heads v → ((n : ℕ) → v ≡ Accepted n → ⊥) → Decides c s room numbers bytes numbers bytes v
+  pub decided-refused : (v : Verdict) → judge.Decides c s RECORDS elements heads v → ((n : ℕ) → v ≡ Accepted n → ⊥) → Decides c s room numbers bytes numbers bytes v
   decided-refused (Accepted n) d other = absurd (other n refl)
   decided-refused (Malformed f) d other = inl d
   decided-refused (Ambiguous x) d other = inl d
 
-  pub decided-listed : (n : ℕ) (numbers′ bytes′ : List ℕ) → judge.Decides c s (recordWidth * elementLimit) elements heads (Accepted n) → (v : Verdict) → ListsUnder (c .nameLength) s heads n room numbers bytes numbers′ bytes′ v → Decides c s room numbers bytes numbers′ bytes′ v
+  pub decided-listed : (n : ℕ) (numbers′ bytes′ : List ℕ) → judge.Decides c s RECORDS elements heads (Accepted n) → (v : Verdict) → ListsUnder (c .nameLength) s heads n room numbers bytes numbers′ bytes′ v → Decides c s room numbers bytes numbers′ bytes′ v
   decided-listed n numbers′ bytes′ d (Accepted t) w = let (es, a, count, fits, few, recorded, u) = d in (es, a, w es (sym count) u)
   decided-listed n numbers′ bytes′ d (Malformed f) w = let (es, a, count, fits, few, recorded, u) = d in inr (es, a, w es (sym count) u)
   decided-listed n numbers′ bytes′ d (Ambiguous x) w = let (es, a, count, fits, few, recorded, u) = d in absurd (w es (sym count) u)

@@ -7,13 +7,12 @@ use mathlib.Core.List.{List, [], _∷_, _++_}
 use lib.ListN.{length}
 use lib.Dec.{ltb}
 use Rattle.rules.specs.Settings.{Settings}
-use Rattle.rules.specs.Bytes.{elementLimit}
 use Rattle.rules.specs.Lent.{bytesOf}
 use Rattle.rules.specs.Attributes.{Attribute}
 use Rattle.rules.specs.TypeFile.{Element}
-use Rattle.rules.specs.Judge.{Answer, refusal, Refuses, Accepts, recordWidth}
+use Rattle.rules.specs.Judge.{Answer, refusal, Refuses, Accepts}
 use Rattle.rules.specs.Listing.{attributeNumbers, attributeWidth, listNumbers, attributeCount}
-use Rattle.layout.specs.Sizes.{LIST}
+use Rattle.layout.specs.Sizes.{LIST, RECORDS}
 use Rattle.numbers.specs.Written.{Written}
 use Rattle.list_table.specs.declared.Row.{Row}
 use Rattle.list_table.specs.Lists as table
@@ -74,7 +73,7 @@ ListsUnder long s heads n room numbers bytes numbers′ bytes′ v = (es : List 
 
 -- What is decided on a type file: it is refused where all its elements have room, or the room is short for its attributes, or they are put.
 abbrev pub RefusesList : Settings → (s : List ℕ) (room : ℕ) → Answer → Type 0
-RefusesList c s room a = Refuses c s (recordWidth * elementLimit) a ⊎ ((es : List Element) × Accepts c s es × NoRoom room es a)
+RefusesList c s room a = Refuses c s RECORDS a ⊎ ((es : List Element) × Accepts c s es × NoRoom room es a)
 
 abbrev pub Decides : Settings → (s : List ℕ) (room : ℕ) (numbers bytes numbers′ bytes′ : List ℕ) → Verdict → Type 0
 Decides c s room numbers bytes numbers′ bytes′ (Accepted t) =

@@ -58,7 +58,7 @@ fn row_numbers(e: usize, a: usize, r: Row) -> [u32; ATTRIBUTE_RECORD]
 
 // The numbers of a record from the i-th number of a buffer on, if they fit.
 fn note_numbers(buffer: &mut [u32], i: usize, row: &[u32])
-    requires { ⌜ (i < 65536) × (length (now row) ≡ attributeWidth) ⌝ }
+    requires { ⌜ (i < ATTRIBUTE-RECORDS) × (length (now row) ≡ attributeWidth) ⌝ }
     ensures { λ _. ⌜ now (buffer .exit) ≡ written (now (buffer .entry)) i (now (row .entry)) ⌝ }
 {
     if i + ATTRIBUTE_RECORD <= buffer.len() {

@@ -31,7 +31,7 @@ module _ (begun : List ℕ) (level : ℕ) where
       (λ n l. in-word (level * BEGUN-WORDS + 2) c z (n + 65) n (omega arith) (omega arith))
 
 -- The word w of the level is the only one that is written.
-module _ (before : List ℕ) (level w i v : ℕ) (there : i ≡ level * BEGUN-WORDS + w) (fits : i < length before) (within : w < 3) where
+module _ (before : List ℕ) (level w i v : ℕ) (there : i ≡ level * BEGUN-WORDS + w) (fits : i < length before) (within : w < BEGUN-WORDS) where
   stored-elsewhere : Elsewhere level before (set before i v)
   stored-elsewhere k j n l = getD-set-other before i (k * BEGUN-WORDS + j) v 0 (λ e. n (omega arith))
 

@@ -32,7 +32,7 @@ pub enum Piece {
     Refused(Fault),
 }
 
-// A start tag that was read, as a token.
+// A start tag that was read, as a piece.
 fn start_tag(r: TagRead) -> Piece
     ensures { λ t. ⌜ ((end : ℕ) (g : List ℕ) (x : Reading rules.Tag) → MeetsTag end g r x → MeetsPiece end g t (asStartTag x)) ⌝ }
 {
@@ -42,7 +42,7 @@ fn start_tag(r: TagRead) -> Piece
     }
 }
 
-// An end tag that was read, as a token.
+// An end tag that was read, as a piece.
 fn end_tag(r: TagRead) -> Piece
     ensures { λ t. ⌜ pieceOf t ≡ asEndTag (tagOf r) ⌝ }
 {

@@ -435,7 +435,7 @@ module _ (s : List ℕ) (es : List Element) (index : List ℕ) (k : ℕ) (in-ran
 
   smallest-after : (b : ℕ) → b < BUCKETS → Dec (bucketIn s es k ≡ b) → getD put (CONTENTS + b) 0 ≡ nextFrom (isIn s es b) (length es - (k - 1)) (k - 1)
   smallest-after b h (yes e) =
-      put-at (CONTENTS + b) (ap (λ (i : ℕ). 65 + i) (sym e)) ∙ sym (next-here (isIn s es b) (length es) k from to (eq-eqb (bucketIn s es k) b e))
+      put-at (CONTENTS + b) (ap (λ (i : ℕ). CONTENTS + i) (sym e)) ∙ sym (next-here (isIn s es b) (length es) k from to (eq-eqb (bucketIn s es k) b e))
     where
       put-at : (i : ℕ) → i ≡ CONTENTS + bucketIn s es k → getD put i 0 ≡ k
       put-at i z = rw z (put-bucket index (done .len) (bucketIn s es k) k in-range (omega arith))

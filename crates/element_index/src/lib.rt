@@ -91,7 +91,7 @@ fn comes_next(
 
 // Which element has the name of this size at `at` of t, which lies within t. The type file is s. Only names of the same length and first
 // letter are compared, in declaration order, up to the one that is found. Where `index` is no index of a type neither answer is decided, but
-// that both are at most 64.
+// that both are at most `ELEMENTS`.
 pub fn find(
     s: &[u8],
     elements: &[u32; RECORDS],

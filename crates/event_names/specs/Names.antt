@@ -7,21 +7,20 @@ use lib.ListN.{length, getD}
 use lib.Dec.{eqb, ltb}
 use Rattle.rules.specs.Events.{eventWidth}
 use Rattle.rules.specs.Listing.{attributeWidth}
-use Rattle.rules.specs.Printed.{upper}
+use Rattle.rules.specs.Printed.{upper, programNameLength}
 use Rattle.rules.specs.Judge.{recordWidth}
-use Rattle.rules.specs.Settings.{leastNameLength}
 use Rattle.rules.specs.Bytes.{MINUS}
 use Rattle.layout.specs.Sizes.{RECORDS}
 
 -- The table has the numbers of 64 elements, whose names stand in s and are short.
 pub record Fits (s elements : List ℕ) : Type 0 where
   pub whole : length elements ≡ RECORDS
-  pub short : (k : ℕ) → getD elements (recordWidth * k + 1) 0 ≤ leastNameLength
+  pub short : (k : ℕ) → getD elements (recordWidth * k + 1) 0 ≤ programNameLength
   pub inside : (k : ℕ) → getD elements (recordWidth * k) 0 + getD elements (recordWidth * k + 1) 0 ≤ length s
 
 -- The table begins with the numbers of so many attributes, whose names stand in s and are short.
 pub record FitsAttributes (s attributes : List ℕ) (total : ℕ) : Type 0 where
-  pub short : (k : ℕ) → k < total → getD attributes (attributeWidth * k + 3) 0 ≤ leastNameLength
+  pub short : (k : ℕ) → k < total → getD attributes (attributeWidth * k + 3) 0 ≤ programNameLength
   pub inside : (k : ℕ) → k < total → getD attributes (attributeWidth * k + 2) 0 + getD attributes (attributeWidth * k + 3) 0 ≤ length s
 
 -- The name of an element by its number, from the table of elements.

@@ -12,9 +12,8 @@ ghost use mathlib.Core.Bool.{_||_};
 ghost use Prim.Native.Nat.{_+_, _-_, _≤_, _<_, _*_};
 ghost use lib.ListN.{length};
 ghost use lib.Dec.{eqb};
-ghost use Rattle.rules.specs.Settings.{leastNameLength};
 ghost use Rattle.rules.specs.Bytes.{ATTCNT, elementLimit, SPACE};
-ghost use Rattle.rules.specs.Printed.{word};
+ghost use Rattle.rules.specs.Printed.{word, programNameLength};
 ghost use Rattle.layout.specs.Sizes.{PROGRAM-EVENTS};
 ghost use Rattle.line_text.specs.Adds.{Adds};
 ghost use Rattle.event_names.specs.Names.{Fits, FitsAttributes, nameIn, startsAt, recordOf, attributeIn, namedAt};
@@ -24,8 +23,8 @@ const ELEMENTS: u32 = layout::ELEMENTS as u32;
 
 // The name of the element with the number x, `-` for 0, and a space after it.
 fn put_name(out: &mut [u8], at: usize, s: &[u8], elements: &[u32; RECORDS], x: u32) -> usize
-    requires { ⌜ (at + leastNameLength + 1 ≤ length (now out)) × Fits (now s) (now elements) ⌝ }
-    ensures { λ r. ⌜ Adds (now (out .entry)) at (now (out .exit)) r (word (nameIn (now (s .entry)) (now (elements .entry)) x) SPACE) × (r ≤ at + leastNameLength + 1) ⌝ }
+    requires { ⌜ (at + programNameLength + 1 ≤ length (now out)) × Fits (now s) (now elements) ⌝ }
+    ensures { λ r. ⌜ Adds (now (out .entry)) at (now (out .exit)) r (word (nameIn (now (s .entry)) (now (elements .entry)) x) SPACE) × (r ≤ at + programNameLength + 1) ⌝ }
 {
     if x == 0 {
         let dash = line_text::put_byte(out, at, b'-');
@@ -103,8 +102,8 @@ fn put_attribute(
     e: u32,
     a: u32,
 ) -> usize
-    requires { ⌜ (at + leastNameLength + 1 ≤ length (now out)) × (total ≤ ATTCNT * elementLimit) × FitsAttributes (now s) (now attributes) total ⌝ }
-    ensures { λ r. ⌜ Adds (now (out .entry)) at (now (out .exit)) r (word (attributeIn (now (s .entry)) (now (attributes .entry)) total e a) SPACE) × (r ≤ at + leastNameLength + 1) ⌝ }
+    requires { ⌜ (at + programNameLength + 1 ≤ length (now out)) × (total ≤ ATTCNT * elementLimit) × FitsAttributes (now s) (now attributes) total ⌝ }
+    ensures { λ r. ⌜ Adds (now (out .entry)) at (now (out .exit)) r (word (attributeIn (now (s .entry)) (now (attributes .entry)) total e a) SPACE) × (r ≤ at + programNameLength + 1) ⌝ }
 {
     let k = record_of(attributes, total, counted(e), counted(a));
     if k == total {
@@ -129,8 +128,8 @@ pub fn put_named(
     k: usize,
     n: usize,
 ) -> usize
-    requires { ⌜ (at + leastNameLength + 1 ≤ length (now out)) × Fits (now s) (now elements) × (k < n) × (n ≤ PROGRAM-EVENTS) × (total ≤ ATTCNT * elementLimit) × FitsAttributes (now s) (now attributes) total ⌝ }
-    ensures { λ r. ⌜ Adds (now (out .entry)) at (now (out .exit)) r (word (namedAt (now (s .entry)) (now (elements .entry)) (now (attributes .entry)) total (now (numbers .entry)) k n) SPACE) × (r ≤ at + leastNameLength + 1) ⌝ }
+    requires { ⌜ (at + programNameLength + 1 ≤ length (now out)) × Fits (now s) (now elements) × (k < n) × (n ≤ PROGRAM-EVENTS) × (total ≤ ATTCNT * elementLimit) × FitsAttributes (now s) (now attributes) total ⌝ }
+    ensures { λ r. ⌜ Adds (now (out .entry)) at (now (out .exit)) r (word (namedAt (now (s .entry)) (now (elements .entry)) (now (attributes .entry)) total (now (numbers .entry)) k n) SPACE) × (r ≤ at + programNameLength + 1) ⌝ }
 {
     let i = EVENT * k;
     let x = numbers[i + 1];

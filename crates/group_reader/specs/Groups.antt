@@ -123,7 +123,7 @@ module _ (long : ℕ) (inner : ℕ → List Place → ℕ → Reading Tokens) (s
       unfolding further
       further-on r = rw (← I, ← B, ne-eqb _ _ p, ← I, ← B, ne-eqb _ _ q, ← I, ← B, r, further, B, I)
 
--- The members of a group, from the one after the k-th on; there are 33 - k at most.
+-- The members of a group, from the one after the k-th on; there are `GRPCNT` + 1 - k at most.
 
 module _ (long : ℕ) (inner : ℕ → List Place → ℕ → Reading Tokens) (s : List ℕ) (k joint : ℕ) (t : Tokens) (h : k ≤ GRPCNT) where
   left : (GRPCNT + 1) - k ≡ suc ((GRPCNT + 1) - (k + 1))

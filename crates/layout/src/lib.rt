@@ -1,5 +1,5 @@
-// How large the tables are that are lent from crate to crate. A quantity of the paper that changes is changed here and in
-// `rules/specs/Bytes.antt`, the longest name in `rules/specs/Settings.antt`; `specs/Sizes.antt` has the sizes for the laws. Places and elements'
+// How large the tables are that are lent from crate to crate. A quantity of the paper that changes is changed here and in the
+// rules: in `rules/specs/Bytes.antt`, or where the request that has it stands (`Settings`, `Batch`, `Printed`); `specs/Sizes.antt` has the sizes for the laws. Places and elements'
 // numbers, which stand in these tables, have a type each, so that they cannot be mixed.
 
 // The shortest length that a caller may give names, and the longest.
@@ -54,7 +54,9 @@ pub const EVENT: usize = 5;
 
 pub const NUMBER: usize = 4;
 
-// The numbers that the small program lends, the events that fit there, the bytes of a line that it prints, at most, and of all lines.
+// How long a name may be for the small program; the numbers that it lends, the events that fit there, the bytes of a line that it prints, at most, and of all lines.
+pub const PROGRAM_NAME_LENGTH: usize = 8;
+
 pub const PROGRAM_ROOM: usize = 20480;
 
 pub const PROGRAM_EVENTS: usize = PROGRAM_ROOM / EVENT;

@@ -215,7 +215,7 @@ module _ (l : List ℕ) (i : ℕ) (r : Row) where
       first j g = getD-set-other (putRow l i r) 0 j n 0 (omega (arith, g))
 
 -- Two tables that are alike over a list have the same list there.
-row-alike : (l m : List ℕ) (i j : ℕ) → ((q : ℕ) → q < 5 → getD m (j + q) 0 ≡ getD l (i + q) 0) → rowIn m j ≡ rowIn l i
+row-alike : (l m : List ℕ) (i j : ℕ) → ((q : ℕ) → q < ATTRIBUTE → getD m (j + q) 0 ≡ getD l (i + q) 0) → rowIn m j ≡ rowIn l i
 row-alike l m i j f =
     let first : getD m j 0 ≡ getD l i 0 = ap (λ x. getD m x 0) (omega arith) ∙ f 0 (omega arith) ∙ ap (λ x. getD l x 0) (omega arith) in
     sym (row-is m j (sym first) (sym (f 1 (omega arith))) (sym (f 2 (omega arith))) (sym (f 3 (omega arith))) (sym (f 4 (omega arith))))

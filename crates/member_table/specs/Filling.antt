@@ -5,7 +5,7 @@ use mathlib.Core.List.{List}
 use lib.ListN.{getD, set, replicate}
 use lib.Dec.{ltb, leb, eqb}
 use Rattle.model_code.specs.Codes.{AND-CODE, OPT-CODE, PLUS-CODE, SEQ-CODE}
-use Rattle.layout.specs.Sizes.{POSITIONS, MODEL-ROWS, CODE, AND-GROUPS, MEMBER}
+use Rattle.layout.specs.Sizes.{POSITIONS, MODEL-ROWS, CODE, AND-GROUPS, MEMBER, LASTS}
 use Rattle.model_links.specs.Each.{each}
 use Rattle.member_entries.specs.Entries.{putMember, putRecord}
 use Rattle.member_table.specs.declared.Piece.{Piece}
@@ -131,7 +131,7 @@ stepFill base T s op =
     (cond (ltb AND-CODE op) (cond (fits (op - AND-CODE) (s .top) (s .groups) (s .count)) (closeGroup base T (op - AND-CODE) s) s) s)))
 
 abbrev pub startFill : List ℕ → State
-startFill M = record { members = M; stack = replicate POSITIONS nonePiece; top = 0; lasts = replicate (AND-GROUPS + 1) 0; groups = 0; count = 0 }
+startFill M = record { members = M; stack = replicate POSITIONS nonePiece; top = 0; lasts = replicate LASTS 0; groups = 0; count = 0 }
 
 -- The first n numbers of the code, fewer than CODE.
 unfoldable pub runFill : List ℕ → (base : ℕ) (T : List ℕ) → ℕ → State

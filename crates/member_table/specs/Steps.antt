@@ -9,7 +9,7 @@ use lib.ListN.{length, getD, set, replicate}
 use borrow.Author.Tests.{eq-eqb, ne-eqb, lt-ltb, le-ltb, le-leb, lt-leb, ltb-true, leb-true}
 use Rattle.model_code.specs.Codes.{AND-CODE, OPT-CODE, PLUS-CODE, SEQ-CODE}
 use Rattle.basic_laws.specs.Truth.{and-left, and-right}
-use Rattle.layout.specs.Sizes.{MODEL-ROWS, CODE, AND-GROUPS, POSITIONS}
+use Rattle.layout.specs.Sizes.{MODEL-ROWS, CODE, AND-GROUPS, POSITIONS, LASTS}
 use Rattle.member_table.specs.declared.Piece.{Piece}
 use Rattle.member_table.specs.Filling.{State, nonePiece, pieceAt, placePiece, optPiece, joinedPiece, closedPiece, neededIn, putGroup, fits, closeGroup, stepFill, runFill}
 
@@ -24,7 +24,7 @@ pub record Running (T : List ℕ) (base : ℕ) (M₀ : List ℕ) (i : ℕ) (M : 
   pub fewer : count < POSITIONS
   pub is : stateOf M stack top lasts groups count ≡ runFill M₀ base T i
 
-pub run-start : (T : List ℕ) (base : ℕ) (M : List ℕ) (none : Piece) → none ≡ nonePiece → stateOf M (replicate POSITIONS none) 0 (replicate (AND-GROUPS + 1) 0) 0 0 ≡ runFill M base T 0
+pub run-start : (T : List ℕ) (base : ℕ) (M : List ℕ) (none : Piece) → none ≡ nonePiece → stateOf M (replicate POSITIONS none) 0 (replicate LASTS 0) 0 0 ≡ runFill M base T 0
 unfolding runFill
 run-start T base M none e = rw e
 

@@ -9,7 +9,7 @@ use lib.Dec.{eqb}
 use lib.ListN.{length, getD, length-replicate}
 use Rattle.rules.specs.Walk.{Group, place, seq, alt, opt, plus, and, Members, one, also}
 use Rattle.rules.specs.Bytes.{GRPGTCNT}
-use Rattle.layout.specs.Sizes.{POSITIONS, MODEL-ROW, CODE, MEMBER, MEMBERS, CONTENTS, AND-GROUPS, LASTS}
+use Rattle.layout.specs.Sizes.{POSITIONS, MODEL-ROW, CODE, MEMBER, MEMBERS, CONTENTS, AND-GROUPS, LASTS, GROUP}
 use Rattle.basic_laws.specs.Truth.{not-true, eqb-bit}
 use Rattle.model_sets.specs.Sets.{has, size, Numbered, follow, nextIn}
 use Rattle.and_laws.specs.Numbers.{Guarded, numbered-good, has-range}
@@ -70,7 +70,7 @@ module _
         lasts = length-replicate {A = ℕ} LASTS 0;
         room = omega (arith, long);
         places = λ u i. let r = has-range g 1 numbered u i in free u (omega (arith, r .1));
-        outers = λ j l h. let is : e * MEMBER + (3 * POSITIONS + j * 4 + 3) ≡ e * MEMBER + 3 * POSITIONS + j * 4 + 3 = omega arith in rw is at (free (3 * POSITIONS + j * 4 + 3) (omega arith));
+        outers = λ j l h. let is : e * MEMBER + (3 * POSITIONS + j * GROUP + 3) ≡ e * MEMBER + 3 * POSITIONS + j * GROUP + 3 = omega arith in rw is at (free (3 * POSITIONS + j * GROUP + 3) (omega arith));
       }
 
   ran : Ran e g 1 (startFill M) (runOps (baseOf e) T (codes g) (startFill M))
@@ -79,7 +79,7 @@ module _
       runs e T g 1 numbered good sized (and-rows (rowsOf T) g good (rows-of T g numbered few rows)) (omega arith) (startFill M) ready (omega arith) (omega (arith, count-few g sized)) (omega arith)
 
   none : (n : ℕ) → n ≤ AND-GROUPS → firstAt M e n ≡ 0
-  none n l = let is : e * MEMBER + (3 * POSITIONS + n * 4) ≡ e * MEMBER + 3 * POSITIONS + n * 4 = omega arith in rw is at (free (3 * POSITIONS + n * 4) (omega arith))
+  none n l = let is : e * MEMBER + (3 * POSITIONS + n * GROUP) ≡ e * MEMBER + 3 * POSITIONS + n * GROUP = omega arith in rw is at (free (3 * POSITIONS + n * GROUP) (omega arith))
 
   pub fills : Filled M e g (filled M e T n)
   fills =

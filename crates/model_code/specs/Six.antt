@@ -37,7 +37,7 @@ maybeSix a = sixes 0 0 .maybe a
 abbrev pub manySix : Six → Six
 manySix a = sixes 0 0 .many a
 
--- One number of the code upon a stack of at most 96: a place, "?", "+", and "," "|" "&" between two groups; `AND-CODE` and more change nothing.
+-- What is done to the group on the top of the stack, and to the two on its top.
 abbrev ofTop : (Six → Six) → List Six → List Six
 ofTop f [] = []
 ofTop f (v ∷ st) = f v ∷ st
@@ -47,9 +47,11 @@ ofTwo f [] = []
 ofTwo f (v ∷ []) = v ∷ []
 ofTwo f (v ∷ (w ∷ st)) = f w v ∷ st
 
+-- Two groups joined by a connector.
 abbrev pub joinedSix : ℕ → Six → Six → Six
 joinedSix op a b = cond (eqb op SEQ-CODE) (thenSix a b) (cond (eqb op ALT-CODE) (eitherSix a b) (addedSix a b))
 
+-- One number of the code upon a stack of at most `POSITIONS`: a place, "?", "+", and "," "|" "&" between two groups; `AND-CODE` and more change nothing.
 abbrev pub stepCode : (p q op : ℕ) → List Six → List Six
 stepCode p q op st =
     cond

@@ -54,7 +54,7 @@ pub struct Pairing {
     pub clash: bool,
 }
 
-// Whether one of two holds, and whether both do. Neither asks more than it is handed.
+// Whether one of two tests holds. It asks no more than it is handed.
 fn one_of(a: bool, b: bool) -> bool
     ensures { λ r. ⌜ r ≡ (a || b) ⌝ }
 {

@@ -161,8 +161,8 @@ module _ (g h : Group) (lo : ℕ) (from : 1 ≤ lo) (to : lo + size g + size h �
     first-h-0 : first h 0 ≡ false
     first-h-0 = none-first h 0 (no-h 0 (omega arith))
 
-    first-h-97 : first h POSITIONS ≡ false
-    first-h-97 = none-first h POSITIONS (has-over h (lo + size g) POSITIONS hn to)
+    first-h-last : first h POSITIONS ≡ false
+    first-h-last = none-first h POSITIONS (has-over h (lo + size g) POSITIONS hn to)
 
     in-sequence : Shows lo (lo + (size g + size h)) T R (first (alt g h)) (last (alt g h)) (follow (seq g h)) (requiredAfter (alt g h))
     in-sequence =
@@ -191,7 +191,7 @@ module _ (g h : Group) (lo : ℕ) (from : 1 ≤ lo) (to : lo + size g + size h �
               (below-or-from u (lo + size g));
           requires =
               λ u ge lt.
-              ⊎-elim (λ (x : u < lo + size g). linked-same (first h) (last g) S lo R (lo + size g) r u POSITIONS ge x (omega arith) first-h-97 ∙ s .requires u ge lt)
+              ⊎-elim (λ (x : u < lo + size g). linked-same (first h) (last g) S lo R (lo + size g) r u POSITIONS ge x (omega arith) first-h-last ∙ s .requires u ge lt)
               (λ (x : lo + size g ≤ u). r .rows-after (u * MODEL-ROW + POSITIONS) (omega arith) ∙ s .requires u ge lt)
               (below-or-from u (lo + size g));
         }
@@ -219,8 +219,8 @@ module _ (g h : Group) (lo : ℕ) (from : 1 ≤ lo) (to : lo + size g + size h �
     first-g-0 : first g 0 ≡ false
     first-g-0 = none-first g 0 (has-under g lo 0 gn from)
 
-    first-g-97 : first g POSITIONS ≡ false
-    first-g-97 = none-first g POSITIONS (no-g POSITIONS (omega arith))
+    first-g-last : first g POSITIONS ≡ false
+    first-g-last = none-first g POSITIONS (no-g POSITIONS (omega arith))
 
     -- Of the four ways in which p can follow u, those that ask for the other's end are none.
     from-g : (a b x y z : Bool) → z ≡ false → (a || (b || x)) ≡ ((a || b) || (x || (z && y)))
@@ -269,7 +269,7 @@ module _ (g h : Group) (lo : ℕ) (from : 1 ≤ lo) (to : lo + size g + size h �
           requires =
               λ u ge lt.
               ⊎-elim (λ (x : u < lo + size g). q .rows-before (u * MODEL-ROW + POSITIONS) (omega arith) ∙ s .requires u ge lt)
-              (λ (x : lo + size g ≤ u). linked-same (first g) (last h) R (lo + size g) Q (lo + size g + size h) q u POSITIONS x (omega arith) (omega arith) first-g-97 ∙ s .requires u ge lt)
+              (λ (x : lo + size g ≤ u). linked-same (first g) (last h) R (lo + size g) Q (lo + size g + size h) q u POSITIONS x (omega arith) (omega arith) first-g-last ∙ s .requires u ge lt)
               (below-or-from u (lo + size g));
         }
 

@@ -12,9 +12,8 @@ use Rattle.rules.specs.Attributes.{number, Attribute, attributeAt}
 use Rattle.rules.specs.TypeFile.{Element}
 use Rattle.rules.specs.Elements.{elementAt}
 use Rattle.rules.specs.Listing.{valueNumbers, defaultNumbers, attributeNumbers, attributeWidth, listNumbers, attributeCount}
-use Rattle.rules.specs.Printed.{upper, attributeText}
+use Rattle.rules.specs.Printed.{upper, attributeText, programNameLength}
 use Rattle.rules_laws.specs.Within.{All, none, more}
-use Rattle.rules.specs.Settings.{leastNameLength}
 use Rattle.type_laws.specs.Attributes.{AttributeIn, AttributesIn}
 use Rattle.event_names.specs.Names.{FitsAttributes, recordWithin, attributeIn}
 use Rattle.attribute_records.specs.Numbers.{value-length, default-length}
@@ -217,7 +216,7 @@ module _ (long : ℕ) (s table rest : List ℕ) (es : List Element) (q : table �
   unfolding Stands
   stands = q ∙ ap (λ (l : List ℕ). l ++ rest) (all-numbers 1 es)
 
-  pub attributes-fit : long ≡ leastNameLength → All (λ (e : Element). AttributesIn long s (e .attributes)) es → FitsAttributes s table (attributeCount es)
+  pub attributes-fit : long ≡ programNameLength → All (λ (e : Element). AttributesIn long s (e .attributes)) es → FitsAttributes s table (attributeCount es)
   unfolding NameAt
   attributes-fit n x =
       record {

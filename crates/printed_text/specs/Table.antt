@@ -8,7 +8,7 @@ use native.Mathlib.Decide.{decLt}
 use lib.ListN.{length, drop, getD, replicate, length-replicate}
 use lib.Dec.{eqb}
 use lib.Seq.{take-at, getD-append-add, getD-drop, drop-drop}
-use Rattle.rules.specs.Settings.{Settings, leastNameLength}
+use Rattle.rules.specs.Settings.{Settings}
 use Rattle.rules.specs.Lent.{numbers, filledWith}
 use Rattle.rules.specs.TypeFile.{Element}
 use Rattle.rules.specs.Judge.{Answer, records, Accepts, Judged, accepts, recordWidth}
@@ -21,7 +21,7 @@ use Rattle.element_reader.specs.Keeps.{Recorded}
 use Rattle.element_index.specs.Seeking.{recorded-offset, recorded-size}
 use Rattle.type_laws.specs.Again.{typeFile-sizes}
 use Rattle.answer_laws.specs.Judge.{settled-one}
-use Rattle.rules.specs.Printed.{programSettings, nameText, startsNext, attributeText, eventText, line, eventLines, eventsText}
+use Rattle.rules.specs.Printed.{programSettings, nameText, startsNext, attributeText, eventText, line, eventLines, eventsText, programNameLength}
 use Rattle.layout.specs.Sizes.{RECORDS}
 use Rattle.event_names.specs.Names.{Fits, nameIn, startsWithin, attributeIn, namedAt}
 use Rattle.event_lines.specs.TextOf.{lineAt, linesFrom, textOf}
@@ -68,10 +68,10 @@ module _ (s : List ℕ) (es : List Element) (accepted : Accepts programSettings 
       by-place (yes h) = recorded-size elements es recorded k h
       by-place (no h) = behind (recordWidth * k + 1) (omega arith) ∙ sym (element-past es k (omega arith) .1)
 
-  name-fits : (k : ℕ) → (elementAt es k .size ≤ leastNameLength) × (elementAt es k .at + elementAt es k .size ≤ length s)
+  name-fits : (k : ℕ) → (elementAt es k .size ≤ programNameLength) × (elementAt es k .at + elementAt es k .size ≤ length s)
   name-fits k = by-place (decLt k (length es))
     where
-      by-place : Dec (k < length es) → (elementAt es k .size ≤ leastNameLength) × (elementAt es k .at + elementAt es k .size ≤ length s)
+      by-place : Dec (k < length es) → (elementAt es k .size ≤ programNameLength) × (elementAt es k .at + elementAt es k .size ≤ length s)
       by-place (yes h) = let z = typeFile-sizes (programSettings .nameLength) s es (accepted .elements) k h in (z .1, z .2)
       by-place (no h) = let z = element-past es k (omega arith) in (omega arith, omega arith)
 

@@ -1,7 +1,7 @@
 // The text that the small program prints for a type file and a document.
 use inputs::Settings;
 use layout::ATTRIBUTE_RECORDS;
-use layout::LEAST_NAME_LENGTH;
+use layout::PROGRAM_NAME_LENGTH;
 use layout::PROGRAM_ROOM;
 use layout::RECORDS;
 use one_document::Answer;
@@ -15,12 +15,12 @@ ghost use Rattle.layout.specs.Sizes.{ATTRIBUTE-RECORDS, PROGRAM-EVENTS, PROGRAM
 ghost use Rattle.inputs.specs.Checks.{settingsOf};
 ghost use Rattle.printed_text.specs.Accepted.{Accepted, ListedIn, EventsPut};
 
-// What the program gives: names of at most 8 bytes.
+// What the program gives: names as long as it reads them, and the first edition.
 fn given() -> Settings
     ensures { λ r. ⌜ settingsOf r ≡ programSettings ⌝ }
 {
     Settings {
-        name_length: LEAST_NAME_LENGTH,
+        name_length: PROGRAM_NAME_LENGTH,
         edition: 1,
     }
 }

@@ -7,7 +7,7 @@ use mathlib.Core.List.{List}
 use lib.ListN.{getD}
 use lib.Dec.{eqb}
 use Rattle.rules.specs.Bytes.{GRPGTCNT}
-use Rattle.layout.specs.Sizes.{POSITIONS, ROW, RAISE}
+use Rattle.layout.specs.Sizes.{POSITIONS, ROW, RAISE, LINK}
 use Rattle.document_laws.specs.Decide.{search}
 use Rattle.and_next.specs.Follows.{Follows}
 
@@ -25,7 +25,7 @@ nextBit rows e u p = bitOf (getD rows (rowAt e u + p / 8) 0) (p % 8)
 
 -- The next smaller place of the same name.
 abbrev pub linkAt : List ℕ → (e p : ℕ) → ℕ
-linkAt places e p = getD places ((e * POSITIONS + p) * 2 + 1) 0
+linkAt places e p = getD places ((e * POSITIONS + p) * LINK + 1) 0
 
 -- From n on downwards the places that pass f are linked.
 pub record Linked (places : List ℕ) (e : ℕ) (f : ℕ → Bool) (n : ℕ) : Type 0 where

@@ -7,7 +7,7 @@ use mathlib.Core.Bool.{true, false, _||_}
 use mathlib.Core.List.{List, [], _∷_, _++_}
 use lib.ListN.{length}
 use lib.Dec.{eqb, leb}
-use Rattle.rules.specs.Settings.{Settings, settings, leastNameLength, firstEdition}
+use Rattle.rules.specs.Settings.{Settings, settings, firstEdition}
 use Rattle.rules.specs.Bytes.{byteAt, fold, MINUS, SPACE, RS}
 use Rattle.rules.specs.Reading.{got}
 use Rattle.rules.specs.Attributes.{attributeAt}
@@ -99,8 +99,11 @@ abbrev pub programRoom : ℕ
 programRoom = 20480
 
 -- "The small program gives 8" (paper 02, request six).
+abbrev pub programNameLength : ℕ
+programNameLength = 8
+
 abbrev pub programSettings : Settings
-programSettings = settings leastNameLength firstEdition
+programSettings = settings programNameLength firstEdition
 
 -- The text for the type file s and the document d, read under these settings with that many numbers lent.
 pub data Prints (s d text : List ℕ) : Type 0 where

@@ -58,7 +58,7 @@ abbrev pub ContentIn : List ℕ → Content → Type 0
 ContentIn s empty = Unit {0}
 ContentIn s (model g ps n) = Fits s ps n
 
--- A name at i. How long it may be: `typeFile-short`.
+-- A name at i.
 pub record NameIn (s : List ℕ) (i size : ℕ) : Type 0 where
   pub some : 1 ≤ size
   pub ends : i + size ≤ length s

@@ -21,7 +21,7 @@ fn written(s: &[u8], d: &[u8], text: &[u8]) -> bool
 fn print(s: &[u8], s_last: usize, d: &[u8], d_last: usize)
     requires { ⌜ Whole typeLimit (now s) «s_last» × Whole documentLimit (now d) «d_last» ⌝ }
 {
-    // The first line and each of at most 4,096 events take 72 bytes at most.
+    // The first line and each of at most `PROGRAM_EVENTS` events take at most `LINE` bytes.
     let mut out = [0u8; PROGRAM_TEXT];
     let k = printed_text::printed(s, d, &mut out);
     if !written(s, d, &out[..k]) {

@@ -16,7 +16,7 @@ use Rattle.rules.specs.TypeFile.{Content, empty, model, Element, typeFile}
 use Rattle.rules.specs.Judge.{Accepts}
 use Rattle.rules.specs.Elements.{elementAt, contentOf, placesIn, hasModel}
 use Rattle.rules.specs.Decisions.{Token, hasName}
-use Rattle.layout.specs.Sizes.{POSITIONS, ROWS, PLACES, FACT, FACTS, MEMBER, CONTENTS, END-OMITTED, HAS-MODEL, START-OMITTED}
+use Rattle.layout.specs.Sizes.{POSITIONS, ROWS, PLACES, FACT, FACTS, MEMBER, CONTENTS, END-OMITTED, HAS-MODEL, START-OMITTED, LINK}
 use Rattle.document_laws.specs.Decide.{search}
 use Rattle.rules_laws.specs.Within.{typeFile-count}
 use Rattle.rules.specs.Bytes.{GRPGTCNT, elementLimit}
@@ -38,8 +38,8 @@ pub record TagsSay (x : Element) (c : Content) (e : ℕ) (facts : List ℕ) : Ty
 -- `b` says whether its numbers are raised.
 pub record ElementSays (s : List ℕ) (es : List Element) (e : ℕ) (b : Bool) (rows places facts members : List ℕ) : Type 0 where
   pub rows-say : (u : ℕ) → u ≤ width es e → RowSays (contentOf es e) b e u rows
-  pub named : (p : ℕ) → 1 ≤ p → p ≤ width es e → getD places ((e * POSITIONS + p) * 2) 0 ≡ namedBy s es (placesIn (contentOf es e)) p
-  pub smaller : (p : ℕ) (t : Token) → 1 ≤ p → p ≤ width es e → Declares es t → hasName s es (placesIn (contentOf es e)) t p ≡ true → getD places ((e * POSITIONS + p) * 2 + 1) 0 ≡ search (hasName s es (placesIn (contentOf es e)) t) (p - 1)
+  pub named : (p : ℕ) → 1 ≤ p → p ≤ width es e → getD places ((e * POSITIONS + p) * LINK) 0 ≡ namedBy s es (placesIn (contentOf es e)) p
+  pub smaller : (p : ℕ) (t : Token) → 1 ≤ p → p ≤ width es e → Declares es t → hasName s es (placesIn (contentOf es e)) t p ≡ true → getD places ((e * POSITIONS + p) * LINK + 1) 0 ≡ search (hasName s es (placesIn (contentOf es e)) t) (p - 1)
   pub largest : (t : Token) → Declares es t → getD facts (e * FACT + nameNumber t) 0 ≡ raisedPlace b (search (hasName s es (placesIn (contentOf es e)) t) (width es e))
   pub tags : 1 ≤ e → TagsSay (elementAt es (e - 1)) (contentOf es e) e facts
   pub plain : b ≡ false → PlainIn (contentOf es e)
@@ -136,8 +136,8 @@ module _ (long : ℕ) (s : List ℕ) (es : List Element) (read : typeFile long s
       let w = width-few long s es read e in
       record {
         rows-say = λ u l. row-says-still (contentOf es e) b e u R R′ (λ k a b. rows k (omega arith)) (h .rows-say u l);
-        named = λ p a b. places ((e * POSITIONS + p) * 2) (omega arith) ∙ h .named p a b;
-        smaller = λ p t a b d y. places ((e * POSITIONS + p) * 2 + 1) (omega arith) ∙ h .smaller p t a b d y;
+        named = λ p a b. places ((e * POSITIONS + p) * LINK) (omega arith) ∙ h .named p a b;
+        smaller = λ p t a b d y. places ((e * POSITIONS + p) * LINK + 1) (omega arith) ∙ h .smaller p t a b d y;
         largest = λ t d. facts (e * FACT + nameNumber t) (omega (arith, number-few es t (typeFile-count long s es read .1) d)) ∙ h .largest t d;
         tags = λ l.
             let t = h .tags l in

@@ -14,7 +14,7 @@ use Rattle.rules.specs.TypeFile.{Place, Element, typeFile}
 use Rattle.rules.specs.Judge.{placeAt}
 use Rattle.rules.specs.Elements.{numberOf}
 use Rattle.rules.specs.Decisions.{Token, start, pcdata, hasName}
-use Rattle.layout.specs.Sizes.{POSITIONS, PLACES, FACT, FACTS, PCDATA, START-OMITTED}
+use Rattle.layout.specs.Sizes.{POSITIONS, PLACES, FACT, FACTS, PCDATA, START-OMITTED, LINK}
 use Rattle.basic_laws.specs.Truth.{not-both, bool-cases}
 use Rattle.document_laws.specs.Decide.{search}
 use Rattle.rules_laws.specs.Within.{typeFile-count}
@@ -82,16 +82,16 @@ module _ (long : ℕ) (s : List ℕ) (es : List Element) (read : typeFile long s
 pub record PlacePut (e p v : ℕ) (P F P′ F′ : List ℕ) : Type 0 where
   pub places-len : length P′ ≡ PLACES
   pub facts-len : length F′ ≡ FACTS
-  pub under : (k : ℕ) → k < (e * POSITIONS + p) * 2 → getD P′ k 0 ≡ getD P k 0
-  pub named : getD P′ ((e * POSITIONS + p) * 2) 0 ≡ v
-  pub smaller : 1 ≤ v → getD P′ ((e * POSITIONS + p) * 2 + 1) 0 ≡ getD F (e * FACT + slotOf v) 0
+  pub under : (k : ℕ) → k < (e * POSITIONS + p) * LINK → getD P′ k 0 ≡ getD P k 0
+  pub named : getD P′ ((e * POSITIONS + p) * LINK) 0 ≡ v
+  pub smaller : 1 ≤ v → getD P′ ((e * POSITIONS + p) * LINK + 1) 0 ≡ getD F (e * FACT + slotOf v) 0
   pub largest : 1 ≤ v → getD F′ (e * FACT + slotOf v) 0 ≡ p
   pub others : (k : ℕ) → (1 ≤ v → k ≡ e * FACT + slotOf v → ⊥) → getD F′ k 0 ≡ getD F k 0
 
 module _ (e p v : ℕ) (P F : List ℕ) (e-to : e ≤ elementLimit) (p-to : p ≤ GRPGTCNT) (l : length P ≡ PLACES) (m : length F ≡ FACTS) where
-  pub place-none : v ≡ 0 → PlacePut e p v P F (set P ((e * POSITIONS + p) * 2) v) F
+  pub place-none : v ≡ 0 → PlacePut e p v P F (set P ((e * POSITIONS + p) * LINK) v) F
   place-none z =
-      let q : ℕ = (e * POSITIONS + p) * 2 in
+      let q : ℕ = (e * POSITIONS + p) * LINK in
       record {
         places-len = length-set P q v ∙ l;
         facts-len = m;
@@ -102,9 +102,9 @@ module _ (e p v : ℕ) (P F : List ℕ) (e-to : e ≤ elementLimit) (p-to : p �
         others = λ k h. refl;
       }
 
-  pub place-some : (f a : ℕ) → 1 ≤ v → slotOf v ≤ elementLimit → f ≡ e * FACT + slotOf v → a ≡ getD F f 0 → PlacePut e p v P F (set (set P ((e * POSITIONS + p) * 2) v) ((e * POSITIONS + p) * 2 + 1) a) (set F f p)
+  pub place-some : (f a : ℕ) → 1 ≤ v → slotOf v ≤ elementLimit → f ≡ e * FACT + slotOf v → a ≡ getD F f 0 → PlacePut e p v P F (set (set P ((e * POSITIONS + p) * LINK) v) ((e * POSITIONS + p) * LINK + 1) a) (set F f p)
   place-some f a some s-to is has =
-      let q : ℕ = (e * POSITIONS + p) * 2 in
+      let q : ℕ = (e * POSITIONS + p) * LINK in
       let R : List ℕ = set P q v in
       let n : length R ≡ PLACES = length-set P q v ∙ l in
       record {
@@ -126,8 +126,8 @@ pub record PlacesPut (s : List ℕ) (es : List Element) (ps : List Place) (e : �
   pub places-under : (k : ℕ) → k < e * POSITIONS * 2 → getD P′ k 0 ≡ getD P k 0
   pub facts-under : (k : ℕ) → k < e * FACT → getD F′ k 0 ≡ getD F k 0
   pub facts-over : (k : ℕ) → e * FACT + START-OMITTED ≤ k → getD F′ k 0 ≡ getD F k 0
-  pub named : (q : ℕ) → q < p → 1 ≤ q → getD P′ ((e * POSITIONS + q) * 2) 0 ≡ namedBy s es ps q
-  pub smaller : (q : ℕ) → q < p → 1 ≤ q → (t : Token) → Declares es t → hasName s es ps t q ≡ true → getD P′ ((e * POSITIONS + q) * 2 + 1) 0 ≡ search (hasName s es ps t) (q - 1)
+  pub named : (q : ℕ) → q < p → 1 ≤ q → getD P′ ((e * POSITIONS + q) * LINK) 0 ≡ namedBy s es ps q
+  pub smaller : (q : ℕ) → q < p → 1 ≤ q → (t : Token) → Declares es t → hasName s es ps t q ≡ true → getD P′ ((e * POSITIONS + q) * LINK + 1) 0 ≡ search (hasName s es ps t) (q - 1)
   pub largest : (t : Token) → Declares es t → getD F′ (e * FACT + nameNumber t) 0 ≡ search (hasName s es ps t) (p - 1)
 
 pub number-few : (es : List Element) (t : Token) → length es ≤ elementLimit → Declares es t → nameNumber t ≤ elementLimit
@@ -162,7 +162,7 @@ module _ (long : ℕ) (s : List ℕ) (es : List Element) (read : typeFile long s
         ∙ h .largest t d
         ∙ sym (search-miss _ p from y))
 
-    smaller-more : 1 ≤ p → (t : Token) → Declares es t → hasName s es ps t p ≡ true → getD R ((e * POSITIONS + p) * 2 + 1) 0 ≡ search (hasName s es ps t) (p - 1)
+    smaller-more : 1 ≤ p → (t : Token) → Declares es t → hasName s es ps t p ≡ true → getD R ((e * POSITIONS + p) * LINK + 1) 0 ≡ search (hasName s es ps t) (p - 1)
     smaller-more l t d y = let (a, q) = filed long s es read ps p v is t d y in w .smaller a ∙ rw q (h .largest t d)
 
     pub places-more : PlacesPut s es ps e P F R H (p + 1)
@@ -174,10 +174,10 @@ module _ (long : ℕ) (s : List ℕ) (es : List Element) (read : typeFile long s
           places-under = λ k l. w .under k (omega arith) ∙ h .places-under k l;
           facts-under = λ k l. w .others k (λ a q. omega arith) ∙ h .facts-under k l;
           facts-over = λ k l. w .others k (λ a q. omega (arith, slot-in)) ∙ h .facts-over k l;
-          named = below-more (λ (q : ℕ). 1 ≤ q → getD R ((e * POSITIONS + q) * 2) 0 ≡ namedBy s es ps q) p (λ q a b. w .under ((e * POSITIONS + q) * 2) (omega arith) ∙ h .named q a b) (λ b. w .named ∙ is);
+          named = below-more (λ (q : ℕ). 1 ≤ q → getD R ((e * POSITIONS + q) * LINK) 0 ≡ namedBy s es ps q) p (λ q a b. w .under ((e * POSITIONS + q) * LINK) (omega arith) ∙ h .named q a b) (λ b. w .named ∙ is);
           smaller =
-              below-more (λ (q : ℕ). 1 ≤ q → (t : Token) → Declares es t → hasName s es ps t q ≡ true → getD R ((e * POSITIONS + q) * 2 + 1) 0 ≡ search (hasName s es ps t) (q - 1)) p
-              (λ q a b t d y. w .under ((e * POSITIONS + q) * 2 + 1) (omega arith) ∙ h .smaller q a b t d y)
+              below-more (λ (q : ℕ). 1 ≤ q → (t : Token) → Declares es t → hasName s es ps t q ≡ true → getD R ((e * POSITIONS + q) * LINK + 1) 0 ≡ search (hasName s es ps t) (q - 1)) p
+              (λ q a b t d y. w .under ((e * POSITIONS + q) * LINK + 1) (omega arith) ∙ h .smaller q a b t d y)
               smaller-more;
           largest = λ t d. rw z (largest-more t d);
         }

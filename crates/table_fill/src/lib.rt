@@ -237,8 +237,7 @@ fn put_element(
 }
 
 // Fills the tables, which are all 0, from an accepted type file whose elements are recorded in `elements`. Where no "&" stands in it there need be no table
-// of members. What they then hold for
-// numbers past the type's elements and past a model's places is not decided: the state never stands there.
+// of members. What they then hold for numbers past the type's elements and past a model's places is not decided: the state never stands there.
 pub fn fill(
     long: usize,
     s: &[u8],

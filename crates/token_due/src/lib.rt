@@ -1,1 +1,1 @@
-// What events are due where the current element may end here (paper 02, request eight). No code.
+// What events are due behind a token and behind an end tag (paper 02, request eight). No code.

@@ -13,7 +13,7 @@ use Rattle.rules.specs.Elements.{contentOf, placesIn, hasModel, startO}
 use Rattle.rules.specs.Decisions.{start}
 use Rattle.rules.specs.Settling.{Open, elementOf, requiredPlace, inferable}
 use Rattle.rules.specs.Bytes.{GRPGTCNT, elementLimit}
-use Rattle.layout.specs.Sizes.{POSITIONS, PCDATA}
+use Rattle.layout.specs.Sizes.{POSITIONS, PCDATA, LINK}
 use Rattle.basic_laws.specs.Truth.{bool-cases}
 use Rattle.document_laws.specs.Decide.{decided}
 use Rattle.type_laws.specs.Names.{numberOf-range, numberOf-pcdata}
@@ -70,7 +70,7 @@ module _ (rows places facts M : List ℕ) (e p : ℕ) (s : List ℕ) (es : List 
   none-named z = sym (inferred ∙ numberIf-zero (may es p named) named z)
 
   -- The number k is kept of what the place names.
-  module _ (some : p ≡ 0 → ⊥) (k : ℕ) (read : k ≡ getD places ((e * POSITIONS + p) * 2) 0) where
+  module _ (some : p ≡ 0 → ⊥) (k : ℕ) (read : k ≡ getD places ((e * POSITIONS + p) * LINK) 0) where
     abbrev stands : Place
     stands = placeAt (placesIn (contentOf es e)) (p - 1)
 
@@ -99,7 +99,7 @@ module _ (rows places facts M : List ℕ) (e p : ℕ) (s : List ℕ) (es : List 
 -- The place p names the element k.
 pub record Names (places : List ℕ) (e p k : ℕ) : Type 0 where
   pub some : p ≡ 0 → ⊥
-  pub read : k ≡ getD places ((e * POSITIONS + p) * 2) 0
+  pub read : k ≡ getD places ((e * POSITIONS + p) * LINK) 0
   pub declared : k ≡ 0 → ⊥
   pub element : k ≤ elementLimit
 

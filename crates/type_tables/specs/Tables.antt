@@ -13,7 +13,7 @@ use Rattle.rules.specs.Elements.{elementAt, numberOf, startO, contentOf, places
 use Rattle.rules.specs.Decisions.{Token, start, pcdata, hasName}
 use Rattle.rules.specs.Settling.{Open}
 use Rattle.rules.specs.Bytes.{GRPGTCNT, elementLimit}
-use Rattle.layout.specs.Sizes.{POSITIONS, FACT, END-OMITTED, HAS-MODEL, PCDATA, RAISE, REQUIRED, START-OMITTED}
+use Rattle.layout.specs.Sizes.{POSITIONS, FACT, END-OMITTED, HAS-MODEL, PCDATA, RAISE, REQUIRED, START-OMITTED, LINK}
 use Rattle.model_sets.specs.Sets.{nextIn, completeIn, requiredIn}
 use Rattle.and_laws.specs.Sets.{Plain}
 use Rattle.member_laws.specs.Members.{Told, Standing}
@@ -87,8 +87,8 @@ abbrev pub namedBy : List ℕ → List Element → List Place → ℕ → ℕ
 namedBy s es ps p = cond (eqb (placeAt ps (p - 1) .size) 0) PCDATA (numberOf s es s (placeAt ps (p - 1) .at) (placeAt ps (p - 1) .size))
 
 pub record Places (s : List ℕ) (es : List Element) (places : List ℕ) : Type 0 where
-  pub named : (e p : ℕ) → e ≤ length es → 1 ≤ p → p ≤ width es e → getD places ((e * POSITIONS + p) * 2) 0 ≡ namedBy s es (placesIn (contentOf es e)) p
-  pub smaller : (e p : ℕ) (t : Token) → e ≤ length es → 1 ≤ p → p ≤ width es e → Declares es t → hasName s es (placesIn (contentOf es e)) t p ≡ true → getD places ((e * POSITIONS + p) * 2 + 1) 0 ≡ search (hasName s es (placesIn (contentOf es e)) t) (p - 1)
+  pub named : (e p : ℕ) → e ≤ length es → 1 ≤ p → p ≤ width es e → getD places ((e * POSITIONS + p) * LINK) 0 ≡ namedBy s es (placesIn (contentOf es e)) p
+  pub smaller : (e p : ℕ) (t : Token) → e ≤ length es → 1 ≤ p → p ≤ width es e → Declares es t → hasName s es (placesIn (contentOf es e)) t p ≡ true → getD places ((e * POSITIONS + p) * LINK + 1) 0 ≡ search (hasName s es (placesIn (contentOf es e)) t) (p - 1)
 
 pub record Facts (s : List ℕ) (es : List Element) (raised : ℕ → Bool) (facts : List ℕ) : Type 0 where
   pub largest : (e : ℕ) (t : Token) → e ≤ length es → Declares es t → getD facts (e * FACT + nameNumber t) 0 ≡ raisedPlace (raised e) (search (hasName s es (placesIn (contentOf es e)) t) (width es e))

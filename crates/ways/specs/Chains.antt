@@ -12,7 +12,6 @@ use Rattle.rules.specs.Elements.{contentOf, hasModel, startO}
 use Rattle.rules.specs.Decisions.{Token, Decisions}
 use Rattle.rules.specs.Settling.{Open, elementOf, fitting, requiredPlace, inferable, chain}
 use Rattle.rules.specs.Bytes.{elementLimit}
-use Rattle.layout.specs.Sizes.{CONTENTS}
 use Rattle.layout.specs.declared.Place.{Place}
 use Rattle.layout.specs.Typed.{placeNo}
 use Rattle.document_laws.specs.Decide.{decided}
@@ -109,7 +108,7 @@ module _ (s : List ℕ) (es : List Element) (D : Decisions) where
 -- The loop: what is still to be looked for, from the element c on after n - 1 others, gives the chain.
 pub record Ahead (s : List ℕ) (es : List Element) (D : Decisions) (t : Token) (o : Open) (c n : ℕ) : Type 0 where
   pub within : c ≤ length es
-  pub still : chained s es D t o ≡ past (n - 1) (chainFrom s es D t (CONTENTS - n) c)
+  pub still : chained s es D t o ≡ past (n - 1) (chainFrom s es D t (elementLimit + 1 - n) c)
 
 module _ (s : List ℕ) (es : List Element) (D : Decisions) (t : Token) (o : Open) (few : length es ≤ elementLimit) where
   ahead-start : (c : ℕ) → c ≡ inferable s es D o → Ahead s es D t o c 1
@@ -126,14 +125,14 @@ module _ (s : List ℕ) (es : List Element) (D : Decisions) (t : Token) (o : Ope
 module _ (s : List ℕ) (es : List Element) (D : Decisions) (t : Token) (o : Open) (c n : ℕ) (some : 1 ≤ n) (h : Ahead s es D t o c n) where
   ahead-over : elementLimit < n → 0 ≡ chained s es D t o
   unfolding chainFrom
-  ahead-over l = let e : CONTENTS - n ≡ 0 = omega arith in sym (h .still ∙ rw (e, chainFrom))
+  ahead-over l = let e : elementLimit + 1 - n ≡ 0 = omega arith in sym (h .still ∙ rw (e, chainFrom))
 
   -- This is one turn, where there is one.
-  turn : (l : ℕ) → l ≡ CONTENTS - n → 1 ≤ l → chained s es D t o ≡ past (n - 1) (link c (fitting s es D (fresh c) t) (chainFrom s es D t (CONTENTS - (n + 1)) (inferable s es D (fresh c))))
+  turn : (l : ℕ) → l ≡ elementLimit + 1 - n → 1 ≤ l → chained s es D t o ≡ past (n - 1) (link c (fitting s es D (fresh c) t) (chainFrom s es D t (elementLimit + 1 - (n + 1)) (inferable s es D (fresh c))))
   unfolding chainFrom
   turn zero e i = absurd (omega arith)
   turn (suc l) e i =
-      let f : l ≡ CONTENTS - (n + 1) = omega arith in
+      let f : l ≡ elementLimit + 1 - (n + 1) = omega arith in
       h .still ∙ rw (← e, chainFrom, f)
 
   ahead-none : n ≤ elementLimit → c ≡ 0 → 0 ≡ chained s es D t o

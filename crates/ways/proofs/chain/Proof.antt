@@ -1,11 +1,10 @@
 -- `chain` meets its contract. The invariant: what is still to be looked for gives what was to be looked for at first, which gives the chain. The measure is what is left of the 64 elements.
-use Prim.Native.Nat.{_-_, _≤_}
+use Prim.Native.Nat.{_-_, _≤_, _+_}
 use mathlib.Core.Path.{_≡_}
 use native.Mathlib.Omega.{arith}
 use borrow.Author.Needs.{needs}
 use borrow.Author.Tests.{eqb-true, eqb-false, not-true, not-false}
 use Rattle.rules.specs.Bytes.{elementLimit}
-use Rattle.layout.specs.Sizes.{CONTENTS}
 use Rattle.ways.specs.Chains.{Looks, Carries, looks-start, looks-found, looks-next, looks-none, looks-over}
 use Rattle.ways.proofs.chain.Statement.{statement}
 use Rattle.ways.proofs.chain.Tie as tie
@@ -14,7 +13,7 @@ abbrev Inv-loop : tie.InvT-loop
 Inv-loop rows places facts x c₀ n₀ c n = (1 ≤ n) × (c .0 ≤ elementLimit) × Carries rows places facts (x .0) (c₀ .0) (c .0) n
 
 abbrev μ-loop : tie.MeasureT-loop
-μ-loop rows places facts x c₀ n₀ c n = CONTENTS - n
+μ-loop rows places facts x c₀ n₀ c n = elementLimit + 1 - n
 
 -- The point that the needs go back to.
 abbrev at-loop-turn : (c : tie.After-fitting-first Inv-loop μ-loop) → tie.In-loop Inv-loop μ-loop
