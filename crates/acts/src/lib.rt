@@ -1,1 +1,2 @@
 // Every reading of the rules is a sequence of acts, one for each event. No code.
+#![tactic(auto)]

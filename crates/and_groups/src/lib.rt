@@ -4,6 +4,7 @@
 // All of it is asked of sets of members: those that hold a place, those of the groups around it, those that cannot be nothing, those that have begun. Where the
 // table tells no model, or the bits are not those of the places taken in it, what `take` answers is not decided, but that it is `FREE` or a place and that the bits
 // of every other level stay.
+#![tactic(auto)]
 ghost use Rattle.std.specs.Prelude.{◌-◌, ◌≤◌, ◌<◌, length};
 ghost use Rattle.rules.specs.Bytes.{GRPGTCNT, TAGLVL, element_limit};
 ghost use Rattle.layout.specs.Sizes.{MEMBERS, AND_GROUPS, ENDING};

@@ -1,1 +1,2 @@
 // What holds of the walks of content models with "&" groups. No code.
+#![tactic(auto)]

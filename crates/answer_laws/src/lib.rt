@@ -1,1 +1,2 @@
 // The rules settle one answer of each call. No code.
+#![tactic(auto)]

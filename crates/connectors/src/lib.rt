@@ -1,4 +1,5 @@
 // Connectors and occurrence indicators: two groups of a model joined, a group repeated or left out, each with what it adds to the model's table.
+#![tactic(auto)]
 ghost use Rattle.std.specs.Prelude.{◌≡◌, ◌&&◌, ◌||◌, List, eqb, ℕ, ◌+◌, ◌≤◌, length};
 ghost use Rattle.rules.specs.TypeFile.{Tokens, occurrence, is_connector, earlier};
 ghost use Rattle.rules.specs.Bytes.{GRPGTCNT, type_limit};

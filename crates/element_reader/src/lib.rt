@@ -1,4 +1,5 @@
 // One element declaration: its name, omitted tag minimization and content.
+#![tactic(auto)]
 ghost use Rattle.std.specs.Prelude.{◌≡◌, List, ◌≤◌, length};
 ghost use Rattle.rules.specs.TypeFile.{close, rest, element};
 ghost use Rattle.rules.specs.TypeFile as rules;

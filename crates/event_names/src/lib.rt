@@ -1,6 +1,7 @@
 // The names that the lines of events have, put into a buffer. What the buffer holds behind them is not decided.
 //
 // `elements` has the records of a type's elements, `attributes` those of its attributes (crate attribute_records), `total` of them.
+#![tactic(auto)]
 ghost use Rattle.std.specs.Prelude.{◌≡◌, ◌||◌, ◌+◌, ◌-◌, ◌≤◌, ◌<◌, ◌*◌, length, eqb};
 ghost use Rattle.rules.specs.Bytes.{ATTCNT, element_limit, SPACE};
 ghost use Rattle.rules.specs.Printed.{word, program_name_length};

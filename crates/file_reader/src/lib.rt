@@ -1,4 +1,5 @@
 // A file read into a buffer, as far as it fits.
+#![tactic(auto)]
 ghost use Rattle.file_reader.specs.Loaded.{GivenIn, LoadedIn};
 
 // How many bytes one read gave.

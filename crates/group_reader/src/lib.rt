@@ -1,4 +1,5 @@
 // The recursive reader of model groups: bytes in, the model's places and its table out.
+#![tactic(auto)]
 ghost use Rattle.std.specs.Prelude.{◌≡◌, false, List, ℕ, ◌+◌, ◌*◌, ◌≤◌, ◌<◌, length};
 ghost use Rattle.rules.specs.TypeFile.{Tokens, token, further, group};
 ghost use Rattle.rules.specs.Bytes.{GRPGTCNT, type_limit};

@@ -1,5 +1,6 @@
 // Words put into a buffer one behind another: each function puts something at `at` and answers where it ends. What the buffer holds
 // behind that end is not decided; what stands before `at` stays.
+#![tactic(auto)]
 ghost use Rattle.std.specs.Prelude.{◌≡◌, [], ◌∷◌, ◌+◌, ◌≤◌, ◌<◌, length};
 ghost use Rattle.rules.specs.Printed.{decimal, word, upper};
 ghost use Rattle.line_text.specs.Adds.{Adds};

@@ -2,6 +2,7 @@
 //
 // Groups count from 1 in the order of their ")", so that an inner one comes before those around it; members count from 1, group after group, in each those that
 // cannot be nothing first. What is kept of each says the crate member_entries.
+#![tactic(auto)]
 ghost use Rattle.std.specs.Prelude.{◌≡◌, ◌+◌, ◌*◌, ◌≤◌, ◌<◌};
 ghost use Rattle.rules.specs.Bytes.{GRPGTCNT};
 ghost use Rattle.layout.specs.Sizes.{AND_GROUPS, CONTENTS, MEMBERS, POSITIONS};

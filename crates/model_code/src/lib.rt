@@ -2,6 +2,7 @@
 //
 // A place stands as its number; the numbers below are none of a place, and stand each behind the groups that it joins or changes. A group of k
 // members joined by "&" ends with `AND_CODE` + k.
+#![tactic(auto)]
 ghost use Rattle.std.specs.Prelude.{◌≡◌, ◌<◌, ◌&&◌, ◌||◌};
 ghost use Rattle.and_laws.specs.Fold.{cross};
 ghost use Rattle.and_laws.specs.Code.{sixes};

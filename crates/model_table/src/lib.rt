@@ -5,6 +5,7 @@
 // required place, or 0. While a model is read, row 0 holds the places that can begin, and column 0 those that can
 // end, the innermost finished group around them. The places of a group are [lo, hi). A row is cleared when its place is read: what
 // the model before left in the rows behind the last place, and in the code behind what is put there, nobody reads.
+#![tactic(auto)]
 ghost use Rattle.std.specs.Prelude.{◌≡◌, ◌≤◌, ◌<◌, true, false};
 ghost use Rattle.layout.specs.Sizes.{POSITIONS};
 ghost use Rattle.model_table.specs.Fill.{put_place, part, part_seq, part_alt, close_ends, close_starts, join_seq, join_and, part_and, repeated, finished};

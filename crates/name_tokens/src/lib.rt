@@ -1,6 +1,7 @@
 // Name token groups: tokens joined by one connector, each for the first time in its list.
 //
 // `seen` has the tokens of a list so far: of each where it stands and how long it is.
+#![tactic(auto)]
 ghost use Rattle.std.specs.Prelude.{◌≡◌, ◌&&◌, ◌||◌, List, [], ◌∷◌, ◌++◌, ◌+◌, ◌≤◌, ◌<◌, ◌*◌, length, eqb};
 ghost use Rattle.rules.specs.Bytes.{ATTCNT, GRPCNT, type_limit};
 ghost use Rattle.rules.specs.Attributes.{Part};

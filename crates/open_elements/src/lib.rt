@@ -1,4 +1,5 @@
 // The open elements from token to token: what is taken, opened and ended in them.
+#![tactic(auto)]
 ghost use Rattle.std.specs.Prelude.{◌≡◌, true, ◌+◌, ◌-◌, ◌≤◌, ◌<◌};
 ghost use Rattle.rules.specs.Settling.{shown, is_open};
 ghost use Rattle.rules.specs.Bytes.{GRPGTCNT, TAGLVL, element_limit};

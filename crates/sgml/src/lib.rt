@@ -1,4 +1,5 @@
 // The calls for C: numbers and byte slices.
+#![tactic(auto)]
 ghost use Rattle.std.specs.Prelude.{◌≡◌};
 ghost use Rattle.rules.specs.Settings.{settings};
 ghost use Rattle.rules.specs.Calls.{answer_numbers, JudgedNumbers, ReadNumbers, ListedNumbers};

@@ -1,5 +1,6 @@
 // Reads the type file `type.sgm` and the document `doc.sgm` of the folder that it runs in, and prints the document's
 // events or the one refusal.
+#![tactic(auto)]
 ghost use Rattle.rules.specs.Printed.{Prints};
 ghost use Rattle.rules.specs.Bytes.{document_limit, type_limit};
 ghost use Rattle.sgml_events.specs.Files.{Whole};

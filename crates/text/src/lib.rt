@@ -1,4 +1,6 @@
 // The bytes of SGML text: their classes, and where names and separators end.
+#![tactic(auto)]
+
 ghost use Rattle.std.specs.Prelude.{◌≡◌, ◌≤◌, ◌<◌, length};
 ghost use Rattle.rules.specs.Bytes.{byte_at, allowed, separator, letter, name_byte, fold, span, name_end, separators_end};
 ghost use Rattle.text.specs.Refusal.{fault_of};
@@ -35,6 +37,7 @@ pub fn byte(s: &[u8], at: usize) -> u8
 }
 
 // Whether a byte may stand in an input at all.
+#[tactic(auto, unfolding(rules::specs::Bytes::allowed))]
 pub fn is_allowed(b: u8) -> bool
     ensures { result ≡ allowed b }
 {
@@ -46,6 +49,7 @@ pub fn is_allowed(b: u8) -> bool
 }
 
 // Whether a byte is a tab, a line feed, a carriage return or a space.
+#[tactic(auto, unfolding(rules::specs::Bytes::separator))]
 pub fn is_separator(b: u8) -> bool
     ensures { result ≡ separator b }
 {
@@ -83,6 +87,7 @@ pub fn is_name_byte(b: u8) -> bool
 }
 
 // Letters fold to upper case.
+#[tactic(auto, unfolding(rules::specs::Bytes::fold))]
 pub fn folded(b: u8) -> u8
     ensures { result ≡ fold b }
 {

@@ -1,6 +1,7 @@
 // The whole type file: separators, comment declarations, element declarations and attribute lists to its end, or the first refusal.
 //
 // `heads` is that of the crate attribute_lists.
+#![tactic(auto)]
 ghost use Rattle.std.specs.Prelude.{◌≡◌, List, ◌+◌, ◌≤◌, ◌<◌, length, replicate};
 ghost use Rattle.rules.specs.TypeFile.{keyword, markup, declaration, type_file};
 ghost use Rattle.rules.specs.TypeFile as rules;

@@ -1,1 +1,2 @@
 // Laws of a type file that was read, for the tables of the document reader. No code.
+#![tactic(auto)]

@@ -1,0 +1,38 @@
+use Prim.Native.Nat.{◌<◌}
+use mathlib.Core.Path.{◌≡◌, refl}
+use mathlib.Core.Bool.{true}
+use native.Mathlib.Omega.{arith}
+use lib.ListN.{length}
+use Rattle.rules.specs.Bytes.{byte_at, allowed}
+use Rattle.text.specs.Words.{tested, allowed_in, span_turn, span_end}
+use Rattle.text.proofs.allowed_end.Goals as goal
+use Rattle.text.proofs.allowed_end.Tie as tie
+use Rattle.text.proofs.allowed_end.Lts as lts
+use Rattle.text.proofs.allowed_end.Reads as reads
+
+abbrev Then1 : Type 0
+Then1 = lts.Then1 tie.the-claims reads.Pre reads.Post goal.the-invariant-loop-i goal.the-decreases-loop-i
+
+pub loop-i-init : goal.loop-i-init
+loop-i-init c = (omega arith, omega arith)
+
+-- Where the test was passed, `i` is a place of the input.
+taken : (c : Then1) → allowed (byte_at c.args.s.now c.loop-i.i) ≡ true
+taken c = tested allowed c.byte.ensures c.is_allowed.ensures c.loop-i-test.true
+
+inside : (c : Then1) → c.loop-i.i < length c.args.s.now
+inside c = allowed_in c.args.s.now _ (taken c)
+
+pub overflow_add-i : goal.overflow_add-i
+overflow_add-i c = omega (arith, inside c.before)
+
+pub loop-i-smaller : goal.loop-i-smaller
+loop-i-smaller c = omega (arith, inside c.before)
+
+pub loop-i-preserved : goal.loop-i-preserved
+unfolding allowed
+loop-i-preserved c = (omega (arith, inside c.before), span_turn allowed refl c.args.s.now _ _ (taken c.before) c.loop-i.invariant.1)
+
+pub returns : goal.returns
+returns c = let left = tested allowed c.byte.ensures c.is_allowed.ensures c.loop-i-test.false in
+    span_end allowed c.args.s.now _ _ left c.loop-i.invariant.1
