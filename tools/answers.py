@@ -52,6 +52,7 @@ class Fn:
             self.parent[t] = parent
             self.own[t] = (of, nf)
             self.newplace[t] = q
+            self.callee[t] = p[3]
         # lookup by normalised name too
         self.byn = {}
         for t in self.parent: self.byn.setdefault(norm(t), t)
@@ -115,6 +116,11 @@ def rewrite(text, env, fn, notes):
         if new is None:
             notes.append(f"no step {f} at {at} in {t}")
             new = f.replace("-", "_") if not f.startswith(("if", "loop", "in")) else f
+        # old words of a step's fields
+        if rest and (new.startswith("if-") or new.endswith("-test")):
+            rest[0] = {"taken": "true", "left": "false"}.get(rest[0], rest[0])
+        if rest and rest[0] == "inv":
+            rest[0] = "invariant"
         return ".".join([v, new] + rest)
 
     out, last = [], 0
@@ -306,10 +312,11 @@ def convert(path, rec, crate):
         pl = []
         extra = []
         if usedplaces:
-            extra = [f"use {mod}.Tie as tie", f"use {mod}.Lts as lts", f"use {mod}.Reads as reads"]
+            extra = ([f"use {mod}.Tie as tie"] if any(x and "::" in x for x in fn.callee.values()) else []) + [f"use {mod}.Lts as lts", f"use {mod}.Reads as reads"]
             it = ""
             for names, _ in fn.loops: it += f" goal.the-invariant-{names[1]} goal.the-decreases-{names[1]}"
-            for p in sorted(usedplaces): pl.append(f"abbrev {p} : Type 0\n{p} = lts.{p} tie.the-claims reads.Pre reads.Post{it}")
+            claims = " tie.the-claims" if any(x and "::" in x for x in fn.callee.values()) else ""
+            for p in sorted(usedplaces): pl.append(f"abbrev {p} : Type 0\n{p} = lts.{p}{claims} reads.Pre reads.Post{it}")
         t = "\n".join(([] if inv else head) + uses + [f"use {mod}.Goals as goal"] + extra) + "\n\n" + "\n\n".join(pl + ans) + "\n"
         open(os.path.join(path, "Answers.antt"), "w", encoding="utf-8").write(t)
     os.remove(os.path.join(path, "Proof.antt"))
