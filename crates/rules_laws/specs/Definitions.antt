@@ -17,7 +17,7 @@ use Rattle.rules.specs.Attributes.{Part, bytes_in, quote, in_literal, literal_en
 use Rattle.rules.specs.TypeFile.{gap, is_word, is_cut, CDATA, NUMBER, NAME, REQUIRED, IMPLIED, unfit, is_token, group_token, TokensEnd, is_token_connector, group_tokens, token_group, tokens_of, attribute_name, ValueEnd, value_word, declared_value, DefaultEnd, default_word, default_literal, is_group, default_value, Definition, definition, ListEnd, definitions, list_from}
 use Rattle.text.specs.Words.{test_in, letter_in, name_end_from, name_end_le, name_end_more, separators_end_from, separators_end_le}
 use Rattle.rules_laws.specs.Holds.{Holds, stops, reads, known, so, on, either}
-use Rattle.rules_laws.specs.In.{All, none, more, all_snoc, NameIn}
+use Rattle.rules_laws.specs.In.{All, none, all_snoc, NameIn}
 use Rattle.rules_laws.specs.Groups.{InType, unfit_holds}
 use Rattle.rules_laws.specs.Gaps.{gap_within_lem}
 use Rattle.rules.specs.Reading.{and_then}

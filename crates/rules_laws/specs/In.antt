@@ -20,6 +20,7 @@ all_snoc none p = more p none
 all_snoc (more q a) p = more q (all_snoc a p)
 
 pub all_mem : {A : Type 0} {P : A → Type 0} {xs : List A} {x : A} → All P xs → Memᴰ x xs → P x
+all_mem none m = elim m [ ]
 all_mem (more p a) (Memᴰ.head e) = rw e p
 all_mem (more p a) (Memᴰ.tail m) = all_mem a m
 
