@@ -1,16 +1,16 @@
 -- The groups around a place as the table has them: the number of the member that holds the place in each, and whether its bit is set.
-use Rattle.std.specs.Prelude.{ℕ, ◌%◌, ◌≤◌, ◌≡◌, refl, Bool, true, false, ◌||◌, List, [], ◌∷◌, ◌++◌, eqb}
+use Rattle.std.specs.Prelude.{ℕ, ◌%◌, ◌≤◌, ◌≡◌, refl, Bool, true, false, ◌||◌, ◌&&◌, List, [], ◌∷◌, ◌++◌, eqb}
 use Rattle.std.proofs.Common.{sym, ◌∙◌, ap, subst, inl, inr, arith, eqb-true, eq-eqb}
 use Rattle.std.proofs.lemmas.Bool.{false≢true}
 use Rattle.rules.specs.Walk.{Group, Members}
 use Rattle.rules.specs.Bytes.{GRPGTCNT}
 use Rattle.layout.specs.Sizes.{ENDING}
 use Rattle.basic_laws.specs.Truth.{or_left, or_right, or_cases, not_true}
-use Rattle.model_sets.specs.Sets.{has, has_m, required_first}
+use Rattle.model_sets.specs.Sets.{has, has_m, last_m, required_first}
 use Rattle.and_laws.specs.Base.{mem, mem_left, mem_right, mem_cases, mem_head}
 use Rattle.and_laws.specs.Sets.{meets, Good, meets_common, common_meets}
 use Rattle.and_laws.specs.Ranked.{Level, levels}
-use Rattle.member_laws.specs.Members.{needs, number_in, Each, group_at, due_at, first_at, Grouped, Chain, begun_at, Marked, AllMarked}
+use Rattle.member_laws.specs.Members.{needs, number_in, Each, group_at, due_at, first_at, outer_at, Grouped, Chain, begun_at, Marked, AllMarked}
 use Rattle.member_laws.specs.Numbered.{both_tests, amount_both, IsNumbered, each_at, at_each, numbered_has, place_numbered, numbered_place, numbered_range, numbered_once, Ranged, needed, spare}
 use Rattle.member_laws.specs.Inside.{IsLevel, level_once, level_good, level_around, EachLevel, AnyLevel, IsSame, IsAround, levels_are}
 
@@ -61,7 +61,7 @@ module _ (M : List ℕ) (e : ℕ) where
 
   pub chain_kept : (u : ℕ) (ends : Bool) (h : ℕ) (ls : List Level) → Chain M e u ends h ls → EachLevel (Grouped M e) ls
   chain_kept u ends h [] c = refl
-  chain_kept u ends h (l ∷ ls) (k, f, x, y, c) = (k, chain_kept u _ _ ls c)
+  chain_kept u ends h (l ∷ ls) (k, f, x, y, c) = (k, chain_kept u (ends && last_m l.members u) (outer_at M e l.number) ls c)
 
   -- The holder is none, or the member of the first group, with `ENDING` more where it can end.
   pub chain_none : (u : ℕ) (ends : Bool) (h : ℕ) (ls : List Level) → Chain M e u ends h ls → EachLevel (λ (l : Level). has_m l.members u ≡ true) ls → h % ENDING ≡ 0 → ls ≡ []

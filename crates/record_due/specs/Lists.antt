@@ -1,5 +1,5 @@
 -- Several events more: ends, which show what is due, and events that are neither ends nor data, before which it is settled; and a run of data.
-use Rattle.std.specs.Prelude.{ℕ, zero, suc, ◌+◌, ◌-◌, ◌≤◌, ◌≡◌, refl, Bool, true, false, ◌||◌, List, [], ◌∷◌, ◌++◌, eqb}
+use Rattle.std.specs.Prelude.{ℕ, zero, suc, ◌≤◌, ◌≡◌, refl, Bool, true, false, ◌||◌, List, [], ◌∷◌, ◌++◌, eqb}
 use Rattle.std.proofs.Common.{sym, ◌∙◌, ap, ap₂, append_assoc, append-nil, eqb-true, ne_eqb, arith}
 use Rattle.rules.specs.Settings.{Settings}
 use Rattle.rules.specs.Events.{Event, data_run}
