@@ -3,6 +3,7 @@
 //
 // No sum of a start and a length is made before it is known to be within: it may be larger than a number can be.
 #![tactic(auto)]
+
 ghost use Rattle.std.specs.Prelude.{◌≡◌, ◌+◌, ◌<◌, leb, length};
 ghost use Rattle.stretches.specs.Fit.{Apart, ApartFrom, AllApart, AllWithin, Fits};
 
