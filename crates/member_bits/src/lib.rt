@@ -1,5 +1,6 @@
 // Members of an element's "&" groups as bits, from the first on: those of the first 64 in one number, the others in a second. There are at most 96.
 #![tactic(auto)]
+
 ghost use Rattle.std.specs.Prelude.{◌≡◌, Bool, false, ◌&&◌, ◌||◌, not, ℕ, ◌+◌, ◌≤◌, ◌<◌, eqb, ltb, leb};
 ghost use Rattle.rules.specs.Bytes.{GRPGTCNT};
 ghost use Rattle.member_bits.specs.Having.{Has, IsNone, First, Lowest};

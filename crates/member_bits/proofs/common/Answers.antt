@@ -1,0 +1,6 @@
+-- `common` meets its contract.
+use Rattle.member_bits.specs.Operations.{has_common}
+use Rattle.member_bits.proofs.common.Goals as goal
+
+pub returns : goal.returns
+returns c = λ f k. has_common _ _ f k
