@@ -1,5 +1,6 @@
 // Numbers and bytes: one of them as an index, a buffer zeroed, and numbers written as they stand or as four bytes each.
 #![tactic(auto)]
+
 ghost use Rattle.std.specs.Prelude.{◌≡◌, ◌∷◌, [], ◌+◌, ◌*◌, ◌≤◌, ◌<◌, length, take};
 ghost use Rattle.rules.specs.Lent.{bytes_of, filled_with, zeroed};
 ghost use Rattle.numbers.specs.Written.{written};

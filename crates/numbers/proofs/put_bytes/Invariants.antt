@@ -1,0 +1,12 @@
+use Prim.Native.Nat.{◌≤◌, ◌-◌}
+use mathlib.Core.Path.{◌≡◌}
+use lib.ListN.{length, take}
+use Rattle.rules.specs.Lent.{bytes_of}
+use Rattle.numbers.specs.Stores.{spliced}
+use Rattle.numbers.proofs.put_bytes.Given as goal
+
+abbrev pub invariant-loop-k : goal.invariant-loop-k
+invariant-loop-k l = (l.k ≤ l.n) × (length l.buffer ≡ length l.initial.buffer) × (l.buffer ≡ spliced l.initial.buffer 0 (bytes_of (take l.k l.table)))
+
+abbrev pub decreases-loop-k : goal.decreases-loop-k
+decreases-loop-k l = l.n - l.k
