@@ -1,3 +1,4 @@
+-- `clear_bytes` meets its contract: after each turn the first bytes are 0 and the rest are as they were.
 use Prim.Native.Nat.{◌≤◌, ◌-◌}
 use mathlib.Core.Path.{◌≡◌}
 use mathlib.Core.List.{◌++◌}

@@ -1,3 +1,4 @@
+-- `clear_numbers` meets its contract: after i turns the first i numbers are 0 and the rest are as they were.
 use Prim.Native.Nat.{◌≤◌, ◌-◌}
 use mathlib.Core.Path.{◌≡◌}
 use mathlib.Core.List.{◌++◌}

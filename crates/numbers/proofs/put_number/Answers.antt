@@ -1,3 +1,4 @@
+-- `put_number` meets its contract: the four stores are the number's four bytes.
 use native.Mathlib.Omega.{arith}
 use lib.ListN.{length-set}
 use Rattle.numbers.specs.Stores.{number_stored}

@@ -1,3 +1,4 @@
+-- `put_numbers` meets its contract: after k turns the first k numbers stand at the start, and the rest is as it was.
 use Prim.Native.Nat.{◌≤◌, ◌-◌}
 use mathlib.Core.Path.{◌≡◌}
 use lib.ListN.{length, take}
