@@ -1,5 +1,6 @@
 // Texts and words compared, folded to upper case.
 #![tactic(auto)]
+
 ghost use Rattle.std.specs.Prelude.{◌≡◌, ◌+◌, ◌≤◌, ◌<◌, length, eqb};
 ghost use Rattle.rules.specs.Bytes.{fold, same_text};
 ghost use Rattle.rules.specs.TypeFile.{is_word, is_cut};
