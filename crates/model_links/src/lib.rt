@@ -3,6 +3,7 @@
 // The layout is that of the crate model_table: `POSITIONS` rows of `MODEL_ROW` numbers, row 0 with the places that can begin a group, column 0 with those
 // that can end one, the last column with the required place.
 #![tactic(auto)]
+
 ghost use Rattle.std.specs.Prelude.{◌≡◌, ◌≤◌, ◌<◌, length};
 ghost use Rattle.layout.specs.Sizes.{MODEL, POSITIONS};
 ghost use Rattle.model_links.specs.Links.{link_cell, link_row, link_from, link, settle_row, settle, clear_row, unbegin};
