@@ -6,6 +6,7 @@
 // end, the innermost finished group around them. The places of a group are [lo, hi). A row is cleared when its place is read: what
 // the model before left in the rows behind the last place, and in the code behind what is put there, nobody reads.
 #![tactic(auto)]
+
 ghost use Rattle.std.specs.Prelude.{◌≡◌, ◌≤◌, ◌<◌, true, false};
 ghost use Rattle.layout.specs.Sizes.{POSITIONS};
 ghost use Rattle.model_table.specs.Fill.{put_place, part, part_seq, part_alt, close_ends, close_starts, join_seq, join_and, part_and, repeated, finished};
@@ -14,7 +15,7 @@ ghost use Rattle.model_table.specs.Shows.{Fresh};
 use layout::{MODEL, MODEL_ROW, POSITIONS};
 
 // What is kept of a group beside the table: whether it can be empty, and which place it requires, or 0.
-#[derive(Drop)]
+#[derive(Clone, Copy)]
 pub struct Part {
     pub nullable: bool,
     pub required: u8,
@@ -43,6 +44,7 @@ pub fn put_place(table: &mut [u8; MODEL], p: usize) -> Part
 }
 
 // The ends of a first group stay ends only if the second can be empty.
+#[tactic(auto, unfolding(crate::specs::Fill::close_ends))]
 fn close_ends(table: &mut [u8; MODEL], lo: usize, mid: usize, h: Part)
     requires { mid ≤ POSITIONS }
     ensures { table.new ≡ close_ends table.old lo mid h }
@@ -53,6 +55,7 @@ fn close_ends(table: &mut [u8; MODEL], lo: usize, mid: usize, h: Part)
 }
 
 // The starts of a second group stay starts only if the first can be empty.
+#[tactic(auto, unfolding(crate::specs::Fill::close_starts))]
 fn close_starts(table: &mut [u8; MODEL], mid: usize, hi: usize, g: Part)
     requires { hi ≤ POSITIONS }
     ensures { table.new ≡ close_starts table.old mid hi g }
