@@ -1,9 +1,12 @@
 // Words put into a buffer one behind another: each function puts something at `at` and answers where it ends. What the buffer holds
 // behind that end is not decided; what stands before `at` stays.
 #![tactic(auto)]
+
 ghost use Rattle.std.specs.Prelude.{◌≡◌, [], ◌∷◌, ◌+◌, ◌≤◌, ◌<◌, length};
 ghost use Rattle.rules.specs.Printed.{decimal, word, upper};
 ghost use Rattle.line_text.specs.Adds.{Adds};
+
+mod digits;
 
 // The array has as many bytes as its type says; no code is left of a call.
 fn whole(digits: [u8; 20])
@@ -38,7 +41,7 @@ pub fn put_number(out: &mut [u8], at: usize, n: u64, b: u8) -> usize
     ensures { Adds out.old at out.new result (word (decimal n) b) × (result ≤ at + 21) }
 {
     let mut digits = [0u8; 20];
-    let k = io::decimal(n, &mut digits);
+    let k = digits::decimal(n, &mut digits);
     whole(digits);
     let end = put_bytes(out, at, &digits[..k]);
     put_byte(out, end, b)

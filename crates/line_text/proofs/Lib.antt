@@ -1,0 +1,2 @@
+-- What the proofs of the digits go by.
+pub mod Powers
