@@ -2,6 +2,7 @@
 //
 // A table of byte classes, 256 numbers, is handed down by all readers of a document (`Classes` of the specs).
 #![tactic(auto)]
+
 ghost use Rattle.std.specs.Prelude.{◌≡◌, ◌&&◌, ◌||◌, ◌+◌, ◌<◌, length, eqb, leb};
 ghost use Rattle.rules.specs.Bytes.{byte_at, letter, AND, DSO, SOLIDUS};
 ghost use Rattle.rules.specs.TypeFile.{at_dashes};
