@@ -1,18 +1,18 @@
 -- Every reading is a sequence of acts: what is settled, closed and ended by the rules, act by act, with at most 24 open in each state passed.
-use Rattle.std.specs.Prelude.{ℕ, ◌+◌, ◌≤◌, ◌≡◌, true, false, List, [], ◌∷◌, ◌++◌, length, leb}
+use Rattle.std.specs.Prelude.{ℕ, ◌≤◌, ◌≡◌, true, false, List, [], ◌∷◌, ◌++◌, length}
 use Rattle.std.proofs.Common.{sym, ◌∙◌, ap, subst, arith, leb-true}
 use Rattle.rules.specs.Settings.{Settings}
 use Rattle.rules.specs.Bytes.{TAGLVL}
 use Rattle.rules.specs.Reading.{got}
 use Rattle.rules.specs.TypeFile.{Element}
-use Rattle.rules.specs.Document.{Piece, blank}
+use Rattle.rules.specs.Document.{Piece}
 use Rattle.rules.specs.Elements.{content_of, has_model}
 use Rattle.rules.specs.Decisions.{Token, start, pcdata, Decisions}
 use Rattle.rules.specs.Events.{Event, start_written, end_written, end_of_empty}
 use Rattle.rules.specs.Given.{with_attributes}
-use Rattle.rules.specs.Settling.{Open, State, nothing_open, place_taken, enter, note, settled, is_complete, take_token, start_element, take_data, end_element, end_document}
+use Rattle.rules.specs.Settling.{Open, State, nothing_open, place_taken, enter, note, is_complete, take_token, start_element, take_data, end_element, end_document}
 use Rattle.rules.specs.Records.{Line, records_settled}
-use Rattle.rules.specs.Reader.{Reached, tagged, settle_piece, document}
+use Rattle.rules.specs.Reader.{Reached, settle_piece, document}
 use Rattle.rules.specs.Acts.{Declared, starts, empties, infers, data_byte_lem, infers_end, ends, Acts, still, next, Passes, begins, goes, Few}
 use Rattle.rules_laws.specs.Holds.{Gives, so, got_so}
 use Rattle.document_laws.specs.Moves.{state, with_datum, document_came}

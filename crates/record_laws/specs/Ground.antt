@@ -1,6 +1,6 @@
 -- No byte stands outside all elements: in the document itself, where nothing but the document element may come, no byte is data. So at the document's end every byte
 -- that is a thing is one of an element that has ended.
-use Rattle.std.specs.Prelude.{ℕ, ◌+◌, ◌≤◌, ◌≡◌, refl, true, ◌⊎◌, leb}
+use Rattle.std.specs.Prelude.{ℕ, ◌≤◌, ◌≡◌, refl, true, ◌⊎◌, leb}
 use Rattle.std.proofs.Common.{arith, sym, ◌∙◌, ap, subst, inl, inr, leb-true}
 use mathlib.Core.List.{List, [], ◌∷◌, ◌++◌, append-nil, nil≢cons}
 use Rattle.rules.specs.Settings.{Settings}

@@ -1,6 +1,6 @@
 -- What settling does to the open elements and to what came in them, by what `acts` says of it: an element is opened in the place that it takes, one that is EMPTY comes and
 -- goes, or one is closed. A data byte then takes its place, and is added last.
-use Rattle.std.specs.Prelude.{ℕ, ◌+◌, ◌≤◌, ◌≡◌, refl, true, false, List, [], ◌∷◌, ◌++◌, length, drop, eqb}
+use Rattle.std.specs.Prelude.{ℕ, ◌≤◌, ◌≡◌, refl, true, false, List, [], ◌∷◌, ◌++◌, length, drop, eqb}
 use Rattle.std.proofs.Common.{sym, ◌∙◌, ap, append_assoc, append-nil}
 use Rattle.std.proofs.Math.Path.{subst}
 use Rattle.std.proofs.Math.Seq.{drop-append_seam}

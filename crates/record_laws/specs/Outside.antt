@@ -1,5 +1,5 @@
 -- In the document itself nothing but the document element may come: no data byte fits there.
-use Rattle.std.specs.Prelude.{ℕ, ◌+◌, ◌-◌, ◌≤◌, ◌≡◌, refl, Bool, false}
+use Rattle.std.specs.Prelude.{ℕ, ◌≤◌, ◌≡◌, refl, Bool, false}
 use Rattle.std.proofs.Common.{arith, sym, ◌∙◌, ap, ne_eqb}
 use Rattle.std.proofs.Math.Path.{subst}
 use Rattle.std.proofs.Math.Bool.{true, false≢true}

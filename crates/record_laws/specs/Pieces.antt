@@ -8,7 +8,7 @@ use Rattle.rules.specs.Bytes.{byte_at, RS, RE, STAGO, MDC}
 use Rattle.rules.specs.Settings.{Settings, is_second}
 use Rattle.rules.specs.Reading.{got}
 use Rattle.rules.specs.TypeFile.{Element}
-use Rattle.rules.specs.Document.{Tag, Piece, start_tag, end_tag, skipped, blank, data_byte, piece}
+use Rattle.rules.specs.Document.{Tag, Piece, start_tag, end_tag, skipped, blank, data_byte}
 use Rattle.rules.specs.Settling.{Open}
 use Rattle.rules.specs.Records.{Line, at_once, is_ignored, record_ends}
 use Rattle.rules.specs.Reader.{piece_under}

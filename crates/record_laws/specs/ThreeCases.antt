@@ -1,5 +1,5 @@
 -- The events of a document that is read in edition 2 are those of the paper's three cases.
-use Rattle.std.specs.Prelude.{ℕ, ◌+◌, ◌-◌, ◌≤◌, ◌<◌, ◌≡◌, refl, Bool, ◌↔◌, length, eqb, leb}
+use Rattle.std.specs.Prelude.{ℕ, ◌+◌, ◌-◌, ◌≤◌, ◌<◌, ◌≡◌, refl, Bool, ◌↔◌, length, eqb}
 use Rattle.std.proofs.Common.{arith, sym, ◌∙◌, subst, le-leb}
 use Rattle.std.proofs.Math.Path.{ap}
 use Rattle.std.proofs.Math.Bool.{true, false}
@@ -24,7 +24,7 @@ use Rattle.record_laws.specs.Tracks.{kept}
 use Rattle.record_laws.specs.Counts.{count, data_count, data_append}
 use Rattle.record_laws.specs.Moves.{moves_new, Over, document_over}
 use Rattle.record_laws.specs.AtOnce.{moves_rooted}
-use Rattle.record_laws.specs.Counted.{open_count, ended_count, total, moves_counted, fills_counted}
+use Rattle.record_laws.specs.Counted.{open_count, ended_count, moves_counted, fills_counted}
 use Rattle.record_laws.specs.Places.{places, places_append, all_places, moves_places, fills_placed}
 use Rattle.record_laws.specs.Kept.{so_far_most, kept_datum, kept_end, same_one, part}
 use Rattle.record_laws.specs.InEvents.{counted_data, data_counted, ended_stands, one_place}

@@ -14,7 +14,7 @@ use Rattle.rules.specs.Decisions.{pcdata, Decisions}
 use Rattle.rules.specs.Events.{Event, data_run, with_data}
 use Rattle.rules.specs.Settling.{State, nothing_open, fitting}
 use Rattle.rules.specs.Records.{Line, new_line, at_once, mark_behind, ignored_behind, taken_behind, line_after}
-use Rattle.rules.specs.Reader.{Reached, tagged, settle_piece, piece_under}
+use Rattle.rules.specs.Reader.{Reached, settle_piece, piece_under}
 use Rattle.rules.specs.RecordEnds.{Thing, markup, boundary, record_end, datum, Contents, no_contents, add, sort, after_sort, after_events, new_in, end_thing, add_blank, contents_after, Fills, begins, goes}
 use Rattle.rules_laws.specs.Holds.{got_so}
 use Rattle.document_laws.specs.Moves.{state}

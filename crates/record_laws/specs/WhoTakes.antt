@@ -1,12 +1,12 @@
 -- "A byte ignored only as the last has still taken its `#PCDATA`; the other two kinds take no place."
-use Rattle.std.specs.Prelude.{ℕ, ◌+◌, ◌≤◌, ◌≡◌, refl, Bool, true, false, List, [], ◌∷◌, ◌++◌, leb}
+use Rattle.std.specs.Prelude.{ℕ, ◌+◌, ◌≤◌, ◌≡◌, refl, Bool, true, false, List, [], ◌∷◌, ◌++◌}
 use Rattle.std.proofs.Common.{sym, ◌∙◌, ap, le-leb}
 use Rattle.std.proofs.lemmas.Bool.{false≢true}
 use Rattle.rules.specs.Settings.{Settings, is_second}
 use Rattle.rules.specs.Bytes.{byte_at, RE}
 use Rattle.rules.specs.Reading.{got}
 use Rattle.rules.specs.TypeFile.{Element}
-use Rattle.rules.specs.Document.{skipped, blank, piece}
+use Rattle.rules.specs.Document.{skipped, blank}
 use Rattle.rules.specs.Decisions.{pcdata, Decisions}
 use Rattle.rules.specs.Settling.{State, fitting}
 use Rattle.rules.specs.Records.{Line, at_once}

@@ -14,13 +14,13 @@ use Rattle.rules.specs.Events.{Event, data_run, end_inferred}
 use Rattle.rules.specs.Settling.{State, start_element, end_element, end_document}
 use Rattle.rules.specs.Records.{Line, is_end, due_run, cut, cut_before_ends, records_settled}
 use Rattle.rules.specs.Reader.{piece_under}
-use Rattle.rules_laws.specs.Holds.{so, got_so}
+use Rattle.rules_laws.specs.Holds.{got_so}
 use Rattle.rules_laws.specs.In.{none, more}
 use Rattle.rules_laws.specs.Pieces.{piece_read}
 use Rattle.document_laws.specs.Decide.{decided}
 use Rattle.document_laws.specs.Moves.{state}
 use Rattle.document_laws.specs.Under.{Stands, unchanged, ignored, stands, under_text}
-use Rattle.record_due.specs.Due.{due_now, due, shown, due_none, settled_none, shown_run, shown_held}
+use Rattle.record_due.specs.Due.{due_now, due, due_none, settled_none, shown_run, shown_held}
 use Rattle.record_due.specs.Lists.{Ends, settled_ends, settled_run, due_run_lem}
 use Rattle.acts.specs.Settled.{Ended, all_ended, ends_then, end_document_closed}
 use Rattle.turn_laws.specs.RunAtOnce.{joins}

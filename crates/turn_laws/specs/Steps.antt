@@ -1,5 +1,5 @@
 -- What the rules do with a token that fits, and with data, as equations.
-use Rattle.std.specs.Prelude.{ℕ, ◌+◌, ◌≡◌, Bool, ◌&&◌, List, [], ◌∷◌, ◌++◌, length, eqb, leb}
+use Rattle.std.specs.Prelude.{ℕ, ◌≡◌, Bool, ◌&&◌, List, [], ◌∷◌, ◌++◌, length, eqb, leb}
 use Rattle.std.proofs.Math.Path.{refl}
 use Rattle.std.proofs.Common.{◌∙◌, ap}
 use Rattle.std.proofs.Math.Bool.{true, false}
@@ -9,7 +9,7 @@ use Rattle.rules.specs.Reading.{Reading, refused, got, and_then}
 use Rattle.rules.specs.TypeFile.{Element}
 use Rattle.rules.specs.Decisions.{Token, pcdata, Decisions}
 use Rattle.rules.specs.Events.{data_run, with_data}
-use Rattle.rules.specs.Settling.{State, limited, fitting, is_complete, take_token, settle_from, settle, take_data}
+use Rattle.rules.specs.Settling.{State, limited, fitting, is_complete, take_token, settle, take_data}
 use Rattle.document_laws.specs.Moves.{state}
 use Rattle.acts.specs.Settled.{settle_on, take_data_is, settle_from_fits, limited_few, limited_many}
 use Rattle.turn_laws.specs.RunAtOnce.{take_run}

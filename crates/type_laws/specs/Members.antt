@@ -17,7 +17,7 @@ use Rattle.basic_laws.specs.Truth.{bool_cases, or_none}
 use Rattle.and_laws.specs.Sets.{Plain}
 use Rattle.and_laws.specs.Numbers.{Guarded, GuardedM}
 use Rattle.member_laws.specs.Members.{total, total_m, Sized, SizedM}
-use Rattle.rules_laws.specs.Holds.{Gives, stops, reads, got_so, each, so, on, either, whichever}
+use Rattle.rules_laws.specs.Holds.{Gives, stops, reads, got_so, on, either, whichever}
 use Rattle.rules_laws.specs.Within.{Fits, ContentIn}
 use Rattle.rules_laws.specs.Groups.{Indicated, optional, repeated, any, occurrence_holds, token_holds, further_holds, unfit_holds, GuardedIn}
 use Rattle.type_laws.specs.Made.{each_content, type_file_made}

@@ -1,5 +1,5 @@
 -- What holds of every model that is read: its places are numbered from 1, left to right, and `#PCDATA` may stand directly after itself.
-use Rattle.std.specs.Prelude.{ℕ, suc, ◌+◌, ◌-◌, ◌≤◌, ◌<◌, ◌≡◌, true, List, [], ◌∷◌, ◌++◌, length, eqb}
+use Rattle.std.specs.Prelude.{ℕ, suc, ◌-◌, ◌≤◌, ◌<◌, ◌≡◌, true, List, [], ◌∷◌, ◌++◌, length, eqb}
 use Rattle.std.proofs.Common.{sym, ◌∙◌, ap, arith, eqb-true}
 use Rattle.rules.specs.Walk.{Group, place, seq, alt, opt, plus, and, one, also}
 use Rattle.rules.specs.TypeFile.{Place, Content, empty, model, Element}

@@ -1,5 +1,5 @@
 -- "`#PCDATA` counts as "*"": where a data byte was taken as a place, the next one fits as the same place.
-use Rattle.std.specs.Prelude.{ℕ, ◌≤◌, ◌≡◌, refl, true, List, [], ◌∷◌, ◌++◌}
+use Rattle.std.specs.Prelude.{ℕ, ◌≤◌, ◌≡◌, refl, List, [], ◌∷◌, ◌++◌}
 use Rattle.std.proofs.Common.{sym, ◌∙◌, subst, arith, eqb-true}
 use Rattle.rules.specs.Settings.{Settings}
 use Rattle.rules.specs.Walk.{Group, Begins}
@@ -7,7 +7,6 @@ use Rattle.rules.specs.TypeFile.{Place, model, Element}
 use Rattle.rules.specs.Judge.{Accepts}
 use Rattle.rules.specs.Elements.{content_of}
 use Rattle.rules.specs.Decisions.{pcdata, Fits}
-use Rattle.model_sets.specs.Sets.{has}
 use Rattle.and_laws.specs.Sets.{has_next}
 use Rattle.and_laws.specs.Numbers.{Guarded}
 use Rattle.and_laws.specs.Begun.{next_itself}
