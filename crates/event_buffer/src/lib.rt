@@ -1,5 +1,6 @@
 // The lent buffers: an event is written behind those before.
 #![tactic(auto)]
+
 ghost use Rattle.std.specs.Prelude.{◌≡◌, ◌∷◌, [], ◌+◌, ◌*◌, ◌<◌};
 ghost use Rattle.rules.specs.Lent.{bytes_of};
 ghost use Rattle.rules.specs.Events.{event_width};
