@@ -1,5 +1,6 @@
 // The table of the members of "&" groups, number by number and set by set. It is that of the crate member_sets.
 #![tactic(auto)]
+
 ghost use Rattle.std.specs.Prelude.{◌≡◌, ◌+◌, ◌≤◌, ◌<◌, length, get_or};
 ghost use Rattle.rules.specs.Bytes.{GRPGTCNT, element_limit};
 ghost use Rattle.layout.specs.Sizes.{MEMBERS, AND_GROUPS, MEMBER_BITS};
