@@ -2,6 +2,7 @@
 //
 // `begun` has three numbers for each level, the document's first, then those of the open elements: a bit for each member, from the first.
 #![tactic(auto)]
+
 ghost use Rattle.std.specs.Prelude.{◌≡◌, ◌≤◌, length};
 ghost use Rattle.rules.specs.Bytes.{TAGLVL};
 ghost use Rattle.layout.specs.Sizes.{BEGUN};
