@@ -62,7 +62,7 @@ module _ (s : List ℕ) where
       let (e, m, w) = first_stands f in
       stands_in e.content k p q (all_mem (type_file_elements c.name_length s es r).1.each m).content w
 
-  all_content : {es : List Element} {e : Element} → AllUnambiguous s es → Memᴰ e es → Unambiguous s e.content
+  all_content : {e : Element} {es : List Element} → AllUnambiguous s es → Memᴰ e es → Unambiguous s e.content
   all_content u (Memᴰ.head e) = rw e u.0
   all_content u (Memᴰ.tail m) = all_content u.1 m
 
