@@ -3,6 +3,7 @@
 // `since` is where the last tag or data ended, `mark` where the last byte 10 or 13 ended that was ignored; 0 where there is none yet. Where the byte before `since` is
 // a byte 13, it is the last of a run of data: it may turn out to be the last in its element, and is not in the events yet.
 #![tactic(auto)]
+
 ghost use Rattle.std.specs.Prelude.{◌≡◌, ℕ, ◌+◌, ◌-◌, ◌≤◌, ◌<◌, length};
 ghost use Rattle.rules.specs.Settings.{settings};
 ghost use Rattle.rules.specs.Settling as rules;
