@@ -1,6 +1,7 @@
 // What a call is given, before it is read: the settings are among those that the paper names, neither input is too long, and every byte
 // is allowed.
 #![tactic(auto)]
+
 ghost use Rattle.std.specs.Prelude.{◌≡◌};
 ghost use Rattle.rules.specs.Bytes.{allowed};
 ghost use Rattle.rules.specs.Settings.{is_offered};
