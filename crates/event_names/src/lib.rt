@@ -2,6 +2,7 @@
 //
 // `elements` has the records of a type's elements, `attributes` those of its attributes (crate attribute_records), `total` of them.
 #![tactic(auto)]
+
 ghost use Rattle.std.specs.Prelude.{◌≡◌, ◌||◌, ◌+◌, ◌-◌, ◌≤◌, ◌<◌, ◌*◌, length, eqb};
 ghost use Rattle.rules.specs.Bytes.{ATTCNT, element_limit, SPACE};
 ghost use Rattle.rules.specs.Printed.{word, program_name_length};
