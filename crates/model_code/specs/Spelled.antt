@@ -55,7 +55,7 @@ module _ (T : List ℕ) (n op : ℕ) (room : n < CODE) where
   pub code_put : length T ≡ MODEL → code_in (put_code T n op) (code_next n) ≡ code_in T n ++ op ∷ []
   code_put len =
       let e : code_next n ≡ suc n = put_next ∙ add-one n in
-      rw (e, put_is, before_put n (omega arith), get_or-set_same T (MODEL_ROWS + n) op 0 (omega arith))
+      simp (e, put_is, before_put n (omega arith), get_or-set_same T (MODEL_ROWS + n) op 0 (omega arith))
 
 -- Numbers are read one after the other.
 abbrev run_numbers : (p q : ℕ) → List ℕ → List Six → List Six

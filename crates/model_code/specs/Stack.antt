@@ -1,5 +1,5 @@
 -- What one number of the code makes of the stack, and that the code may be read number by number.
-use Rattle.std.specs.Prelude.{ℕ, zero, suc, ◌+◌, ◌-◌, ◌≤◌, ◌<◌, ◌≡◌, refl, ◌⊎◌, List, [], ◌∷◌, length, get_or, set}
+use Rattle.std.specs.Prelude.{ℕ, zero, suc, ◌+◌, ◌-◌, ◌≤◌, ◌<◌, ◌≡◌, refl, List, [], ◌∷◌, length, get_or, set}
 use Rattle.std.proofs.Common.{sym, ap, ◌∙◌, ⊎_elim, arith, length-set, get_or-set_same, get_or-set_other, eq-eqb, ne_eqb, lt-ltb, le-ltb}
 use Rattle.basic_laws.specs.Numbers.{below_or_from}
 use Rattle.model_code.specs.Codes.{AND_CODE, OPT_CODE, PLUS_CODE, SEQ_CODE}
@@ -60,8 +60,8 @@ module _ (T : List ℕ) (p q i : ℕ) (a : List Pairing) where
       let e : suc k - 1 ≡ k = omega arith in
       let tests' : six x ≡ maybe_six (six (get_or a k none_pairing)) = tests ∙ ap (λ (m : ℕ). maybe_six (six (get_or a m none_pairing))) e in
       let front = ap six (get_or-set_same a k x none_pairing (omega (arith, so.len, so.low))) ∙ tests' in
-      passed T p q i a (suc k) so w op read (set a (suc k - 1) x) (suc k) (length-set a (suc k - 1) x ∙ so.len) so.low
-      (rw (e, le-ltb op SEQ_CODE (omega arith), eq-eqb op OPT_CODE is, stacked_set a k x k (omega arith)) (ap (λ (v : Six). v ∷ stacked a k) front))
+      rw e (passed T p q i a (suc k) so w op read (set a k x) (suc k) (length-set a k x ∙ so.len) so.low
+      (rw (le-ltb op SEQ_CODE (omega arith), eq-eqb op OPT_CODE is, stacked_set a k x k (omega arith)) (ap (λ (v : Six). v ∷ stacked a k) front)))
 
   pub passed_opt_none : (top : ℕ) → Passed T p q i a top → i < CODE → (op : ℕ) → op ≡ get_or T (MODEL_ROWS + i) 0 → op ≡ OPT_CODE → top < 1 → Passed T p q (i + 1) a top
   passed_opt_none (suc k) so w op read is l = absurd (omega arith)
@@ -74,8 +74,8 @@ module _ (T : List ℕ) (p q i : ℕ) (a : List Pairing) where
       let e : suc k - 1 ≡ k = omega arith in
       let tests' : six x ≡ many_six (six (get_or a k none_pairing)) = tests ∙ ap (λ (m : ℕ). many_six (six (get_or a m none_pairing))) e in
       let front = ap six (get_or-set_same a k x none_pairing (omega (arith, so.len, so.low))) ∙ tests' in
-      passed T p q i a (suc k) so w op read (set a (suc k - 1) x) (suc k) (length-set a (suc k - 1) x ∙ so.len) so.low
-      (rw (e, le-ltb op SEQ_CODE (omega arith), ne_eqb op OPT_CODE (λ (n : op ≡ OPT_CODE). omega arith), eq-eqb op PLUS_CODE is, stacked_set a k x k (omega arith)) (ap (λ (v : Six). v ∷ stacked a k) front))
+      rw e (passed T p q i a (suc k) so w op read (set a k x) (suc k) (length-set a k x ∙ so.len) so.low
+      (rw (le-ltb op SEQ_CODE (omega arith), ne_eqb op OPT_CODE (λ (n : op ≡ OPT_CODE). omega arith), eq-eqb op PLUS_CODE is, stacked_set a k x k (omega arith)) (ap (λ (v : Six). v ∷ stacked a k) front)))
 
   pub passed_plus_none : (top : ℕ) → Passed T p q i a top → i < CODE → (op : ℕ) → op ≡ get_or T (MODEL_ROWS + i) 0 → op ≡ PLUS_CODE → top < 1 → Passed T p q (i + 1) a top
   passed_plus_none (suc k) so w op read is l = absurd (omega arith)

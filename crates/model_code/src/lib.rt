@@ -3,6 +3,7 @@
 // A place stands as its number; the numbers below are none of a place, and stand each behind the groups that it joins or changes. A group of k
 // members joined by "&" ends with `AND_CODE` + k.
 #![tactic(auto)]
+
 ghost use Rattle.std.specs.Prelude.{◌≡◌, ◌<◌, ◌&&◌, ◌||◌};
 ghost use Rattle.and_laws.specs.Fold.{cross};
 ghost use Rattle.and_laws.specs.Code.{sixes};
@@ -42,7 +43,7 @@ pub fn put(table: &mut [u8; MODEL], n: u16, op: u8) -> u16
 
 // What a pass keeps of a group for the places p and q: whether it can be nothing; whether p, whether q can begin a walk of it; whether p,
 // whether q can go on after some walk of it; whether both can come next after one beginning.
-#[derive(Drop)]
+#[derive(Clone, Copy)]
 pub struct Pairing {
     pub null: bool,
     pub begins_p: bool,

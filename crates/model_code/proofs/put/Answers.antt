@@ -5,11 +5,9 @@ use mathlib.Core.List.{List}
 use native.Mathlib.Omega.{arith}
 use lib.ListN.{set}
 use borrow.Author.Tests.{lt-ltb, le-ltb}
-use borrow.Author.Rules.{rules}
 use Rattle.layout.specs.Sizes.{MODEL_ROWS, CODE}
 use Rattle.model_code.specs.Six.{put_code, code_next}
-use Rattle.model_code.proofs.put.Statement.{statement}
-use Rattle.model_code.proofs.put.Tie as tie
+use Rattle.model_code.proofs.put.Goals as goal
 
 skipped : (T : List ℕ) (n op i : ℕ) → i ≡ n → CODE ≤ i → (T ≡ put_code T n op) × (n ≡ code_next n)
 skipped T n op i e h = let x = le-ltb n CODE (omega arith) in (rw x, rw x)
@@ -17,15 +15,10 @@ skipped T n op i e h = let x = le-ltb n CODE (omega arith) in (rw x, rw x)
 written : (T : List ℕ) (n op i : ℕ) → i ≡ n → i < CODE → (set T (MODEL_ROWS + i) op ≡ put_code T n op) × (n + 1 ≡ code_next n)
 written T n op i e h = let x = lt-ltb n CODE (omega arith) in (rw x (ap (λ (k : ℕ). set T (MODEL_ROWS + k) op) e), rw x)
 
-returns : tie.Need-returns
-returns c =
-    let x = c.before.before.args in
-    skipped _ x.n x.op _ c.before.short.ensures.0 c.if1.true
+pub returns-then-i-ge-CODE : goal.returns-then-i-ge-CODE
+returns-then-i-ge-CODE c = let x = c.args in
+    skipped _ x.n x.op _ c.short-i.ensures.0 c.if-i-ge-CODE.true
 
-returns-2 : tie.Need-returns-2
-returns-2 c =
-    let x = c.before.before.args in
-    written x.table.now x.n x.op _ c.before.short.ensures.0 (omega (arith, c.if1.false))
-
-pub put_spec : {M : Type 1} → statement M
-put_spec = tie.close (tie.spec (λ c κs. search rules) returns (λ c. search rules) (λ c. search rules) (λ c. search rules) returns-2)
+pub returns : goal.returns
+returns c = let x = c.args in
+    written x.table.now x.n x.op _ c.short-i.ensures.0 (omega (arith, c.if-i-ge-CODE.false))
