@@ -1,5 +1,5 @@
 -- Each start took the one place that the walks allow for its name, by demand 3.
-use Rattle.std.specs.Prelude.{ℕ, zero, suc, ◌+◌, ◌-◌, ◌≤◌, ◌<◌, ◌≡◌, refl, true, false, ◌⊎◌, eqb, leb}
+use Rattle.std.specs.Prelude.{ℕ, zero, suc, ◌-◌, ◌≤◌, ◌<◌, ◌≡◌, refl, true, ◌⊎◌}
 use Rattle.std.proofs.Math.Path.{sym, ap}
 use Rattle.std.proofs.Common.{◌∙◌, ap₂, subst, inl, inr, ⊎_elim, arith, length-append, le-leb, eq-eqb, ne_eqb}
 use Rattle.std.proofs.lemmas.Bool.{false≢true}
@@ -13,7 +13,7 @@ use Rattle.rules.specs.Judge.{same_place, place_at, Accepts}
 use Rattle.rules.specs.Elements.{element_at, is_named, number_of, content_of, places_in, has_model}
 use Rattle.rules.specs.Decisions.{Token, start, pcdata, Fits, Decisions, Means}
 use Rattle.rules.specs.Events.{Event, data_run}
-use Rattle.rules.specs.Settling.{Open, State, take_place, shown, place_taken, enter, fitting, required_place, inferable, take_token}
+use Rattle.rules.specs.Settling.{Open, State, take_place, shown, place_taken, fitting, required_place, inferable, take_token}
 use Rattle.rules.specs.Acts.{Declared, data_taken, Deed, opened, passed, inferred, fitted, inferred_end, closed, Deeds, nothing, then, IsStart, Took, document_element, in_model}
 use Rattle.text.specs.Words.{same_text_refl}
 use Rattle.rules_laws.specs.Names.{same_place_refl}
