@@ -162,14 +162,14 @@ pub const ATTRIBUTE_RECORD: usize = 9;
 pub const ATTRIBUTE_RECORDS: usize = ATTRIBUTE_RECORD * ATTCNT * ELEMENTS;
 
 // A place of a content model, from 1, or 0 for none: at the start of the content none is taken yet.
-#[derive(Drop)]
+#[derive(Clone, Copy)]
 pub struct Place(pub usize);
 
 // An element's number, from 1 in declaration order. 0 is the document itself where an element is open, data where a token is named, and
 // none where one is looked for; `PCDATA` is none of any element.
-#[derive(Drop)]
+#[derive(Clone, Copy)]
 pub struct ElementNo(pub usize);
 
 // An attribute's number in the list of its element, from 1.
-#[derive(Drop)]
+#[derive(Clone, Copy)]
 pub struct AttributeNo(pub usize);
