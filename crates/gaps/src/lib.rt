@@ -1,5 +1,6 @@
 // What stands between the parameters of a declaration: separators and comments, to the next byte of another kind; and where a comment ends.
 #![tactic(auto)]
+
 ghost use Rattle.std.specs.Prelude.{◌≡◌, true, ◌+◌, ◌≤◌, ◌<◌, length, drop};
 ghost use Rattle.rules.specs.TypeFile.{at_dashes, before_dashes, comment_declaration, gap};
 ghost use Rattle.text.specs.Refusal.{reached};
