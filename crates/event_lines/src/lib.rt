@@ -2,6 +2,7 @@
 //
 // `elements` has the records of a type's elements, `attributes` those of its attributes (crate attribute_records), `total` of them.
 #![tactic(auto)]
+
 ghost use Rattle.std.specs.Prelude.{◌≡◌, ◌+◌, ◌*◌, ◌≤◌, ◌<◌, length, take};
 ghost use Rattle.rules.specs.Bytes.{ATTCNT, element_limit};
 ghost use Rattle.rules.specs.Printed.{refused_text};
