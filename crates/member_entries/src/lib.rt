@@ -4,6 +4,7 @@
 // group; for each member the place that it requires at its start, or 0; for each group its first member, how many of its members cannot be nothing, how many
 // there are, and the innermost member that holds it, or 0, and `ENDING` more where that member can end with this group.
 #![tactic(auto)]
+
 ghost use Rattle.std.specs.Prelude.{◌≡◌, ◌+◌, ◌≤◌, ◌<◌, set};
 ghost use Rattle.layout.specs.Sizes.{AND_GROUPS, MEMBERS, POSITIONS};
 ghost use Rattle.member_entries.specs.Entries.{put_free, marked, put_places, put_outer, put_outers, put_member, put_record};
