@@ -1,5 +1,6 @@
 // An attribute in a start tag: how it is read, and how the attributes of a tag are kept.
 #![tactic(auto)]
+
 ghost use Rattle.std.specs.Prelude.{◌≡◌, ◌≤◌, ◌<◌, ◌+◌, length};
 ghost use Rattle.rules.specs.Bytes.{name_byte, name_end, ATTCNT};
 ghost use Rattle.rules.specs.Document.{specification};
