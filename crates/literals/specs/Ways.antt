@@ -1,5 +1,5 @@
 -- The scan of a literal: a byte that does not end it is passed, and each way in which it ends is what the rules say.
-use Rattle.std.specs.Prelude.{ℕ, suc, ◌+◌, ◌≤◌, ◌<◌, ◌≡◌, refl, ◌&&◌, List, length, drop, eqb}
+use Rattle.std.specs.Prelude.{ℕ, ◌+◌, ◌≤◌, ◌<◌, ◌≡◌, refl, ◌&&◌, List, length, drop, eqb}
 use Rattle.std.proofs.Common.{suc-add, eq-eqb, ne_eqb, lt-ltb, le-ltb}
 use Rattle.rules.specs.Bytes.{byte_at, AND}
 use Rattle.rules.specs.Reading.{refused, got}

@@ -1,5 +1,6 @@
 // Literals: values in either quote, in a type file and in a tag.
 #![tactic(auto)]
+
 ghost use Rattle.std.specs.Prelude.{◌≡◌, true, ◌<◌, length};
 ghost use Rattle.rules.specs.Attributes.{quote, literal_end};
 ghost use Rattle.text.specs.Refusal.{reached};
