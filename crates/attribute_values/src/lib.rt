@@ -2,6 +2,7 @@
 //
 // A declared value is a number: 0 CDATA, 1 NUMBER, 2 NAME, else where the "(" of a name token group stands in the type file.
 #![tactic(auto)]
+
 ghost use Rattle.std.specs.Prelude.{◌≡◌, ◌||◌, List, ℕ, ◌+◌, ◌-◌, ◌≤◌, ◌<◌, length, eqb};
 ghost use Rattle.rules.specs.Bytes.{digit, RE, RS, TAB, type_limit};
 ghost use Rattle.rules.specs.Attributes.{Part, DeclaredValue, cdata, number, name, is_one_of};
