@@ -3,6 +3,7 @@
 // A place is forbidden by a member: one that must come first, of a group that would be left, or the one that has the place, where it has begun and was left. Where
 // the table tells no model, or the bits are not those of the places taken in it, what `may_follow` answers is not decided.
 #![tactic(auto)]
+
 ghost use Rattle.std.specs.Prelude.{◌≤◌, ◌<◌, length};
 ghost use Rattle.rules.specs.Bytes.{GRPGTCNT, TAGLVL, element_limit};
 ghost use Rattle.layout.specs.Sizes.{MEMBERS, AND_GROUPS};

@@ -8,7 +8,7 @@ ghost use Rattle.member_bits.specs.Having.{Has, IsNone, First, Lowest};
 use layout::GRPGTCNT;
 
 // Sixty-four members in one number, the others in a second.
-#[derive(Drop)]
+#[derive(Clone, Copy)]
 pub struct Bits {
     pub low: usize,
     pub high: usize,
