@@ -46,7 +46,7 @@ ready_start M level e u before b z is = record { B = λ (n : ℕ). false; bits =
   where
     each : (taken : List ℕ) → taken ≡ [] → (ls : List Level) → EachLevel (MarkedBy M e (λ (n : ℕ). false) (mem taken)) ls
     each taken y [] = refl
-    each taken y (l ∷ ls) = (at_each _ _ (λ (n : ℕ) (k : Group). false ≡ meets k (mem taken)) l.members (λ n k i. sym (ap (λ (s : List ℕ). meets k (mem s)) y ∙ meets_none k)), each taken y ls)
+    each taken y (l ∷ ls) = (at_each (first_at M e l.number) (needs l.members) (λ (n : ℕ) (k : Group). false ≡ meets k (mem taken)) l.members (λ n k i. sym (ap (λ (s : List ℕ). meets k (mem s)) y ∙ meets_none k)), each taken y ls)
 
 -- The place that a group requires is one of the model's.
 rest_small : (g : Group) → Numbered g 1 → size g ≤ GRPGTCNT → (p : ℕ) (l : Level) → IsAround g 0 p l → (S : ℕ → Bool) → required_rest l.members S ≤ GRPGTCNT

@@ -5,6 +5,7 @@
 // table tells no model, or the bits are not those of the places taken in it, what `take` answers is not decided, but that it is `FREE` or a place and that the bits
 // of every other level stay.
 #![tactic(auto)]
+
 ghost use Rattle.std.specs.Prelude.{◌-◌, ◌≤◌, ◌<◌, length};
 ghost use Rattle.rules.specs.Bytes.{GRPGTCNT, TAGLVL, element_limit};
 ghost use Rattle.layout.specs.Sizes.{MEMBERS, AND_GROUPS, ENDING};
