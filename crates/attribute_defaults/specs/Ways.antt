@@ -6,7 +6,7 @@ use Rattle.std.proofs.Math.Dec.{ltb}
 use borrow.Author.Tests.{eq-eqb, ne_eqb, le-leb, lt-leb, ltb-true, ltb-false, not-true, not-false}
 use Rattle.rules.specs.Bytes.{byte_at, letter, name_end, RNI}
 use Rattle.rules.specs.Reading.{refused, got, and_then}
-use Rattle.rules.specs.Attributes.{bytes_in, quote, literal_end, DeclaredValue, required, implied, literal, fits}
+use Rattle.rules.specs.Attributes.{bytes_in, quote, literal_end, DeclaredValue, literal, fits}
 use Rattle.rules.specs.Given.{value_bytes}
 use Rattle.rules.specs.TypeFile.{is_word, is_cut, REQUIRED, IMPLIED, unfit, default_word, default_literal, is_group, default_value}
 use Rattle.text.specs.Words.{test_in}

@@ -2,6 +2,7 @@
 //
 // A default is two numbers: 0 `#REQUIRED`, 1 `#IMPLIED`, else where the value of the literal begins; and how long that value is.
 #![tactic(auto)]
+
 ghost use Rattle.std.specs.Prelude.{◌≡◌, List, ℕ, ◌+◌, ◌≤◌, ◌<◌, length};
 ghost use Rattle.rules.specs.Attributes.{DeclaredValue};
 ghost use Rattle.rules.specs.TypeFile.{default_word, default_literal, default_value};
