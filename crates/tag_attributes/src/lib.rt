@@ -13,7 +13,7 @@ use text::{Fault, Reached};
 
 // An attribute as a tag gives it: where its name stands and how long that is, where the literal's opening quote stands, and how long the
 // value is.
-#[derive(Drop)]
+#[derive(Clone, Copy)]
 pub struct Written {
     pub name: usize,
     pub size: usize,

@@ -1,5 +1,6 @@
 // A tag of a document: name, the attributes of a start tag, separators, `>`.
 #![tactic(auto)]
+
 ghost use Rattle.std.specs.Prelude.{◌≡◌, [], ◌≤◌, length};
 ghost use Rattle.rules.specs.Document.{tag, start_tag_at};
 ghost use Rattle.rules.specs.Bytes.{document_limit};

@@ -1,0 +1,11 @@
+use Prim.Native.Nat.{◌-◌}
+use mathlib.Core.List.{[]}
+use lib.ListN.{length}
+use Rattle.tags.specs.Attributes.{specifications_on, Goes}
+use Rattle.tags.proofs.attributes_at.Given as goal
+
+abbrev pub invariant-loop-r : goal.invariant-loop-r
+invariant-loop-r l = Goes l.long l.s l.i l.e (specifications_on l.long (length l.s) l.s l.i l.e l.initial.j []) l.given l.n l.j
+
+abbrev pub decreases-loop-r : goal.decreases-loop-r
+decreases-loop-r l = length l.s - l.j
