@@ -1,8 +1,9 @@
 -- The calls for C themselves: the routine of each, as it was proved, meets the contract whose `ensures` is what the page says of the call. So nothing
--- stands between the page and the code but the contract that both share.
+-- stands between the page and the code but the contract that both share. The routine is what the call's name means wherever its code is (`Wired`).
 use seplogic.Ra.Ura.{Ura}
 use prog.Model.{Model}
 use prog.Routine.{Routine}
+use prog.Wired.{Wired}
 use base.Logic.{ent}
 use types.Logic.{Logic}
 use contract.Running.{Running}
@@ -42,13 +43,13 @@ module _ {M : Type 1} {𝓤 : Ura M} (𝓛 : Logic 𝓤) (𝓜 : Model 𝓤 𝓛
 
 module _ {M : Type 1} {𝓤 : Ura M} (𝓛 : Logic 𝓤) (𝓜 : Model 𝓤 𝓛.H) (𝓡 : Running 𝓤 𝓛.H 𝓜) where
   abbrev judge_clauses : Clauses 𝓤 c_judge.ended
-  judge_clauses = c_judge.clauses 𝓛 𝓜.mem 𝓡.run
+  judge_clauses = c_judge.clauses 𝓛 𝓜.mem 𝓡.returns
 
-  pub sgml_judge_meets : RoutineMeets 𝓛 𝓜 𝓡 c_judge.ended judge_clauses c_judge_symbol.routine (saying 𝓛 𝓜 𝓡 c_judge.ended judge_clauses JudgeGives)
-  sgml_judge_meets = meets_so 𝓛 𝓜 𝓡 c_judge.ended judge_clauses c_judge_symbol.routine JudgeGives (λ κs a g r ws. fact_mono 𝓤 _ _ (sgml_judge κs a r (at_exit c_judge.ended κs a ws))) (c_judge_met.met 𝓤 𝓛 𝓜 𝓡)
+  pub sgml_judge_meets : Wired 𝓡.env c_judge_symbol.code → RoutineMeets 𝓛 𝓜 𝓡 c_judge.ended judge_clauses (𝓡.env c_judge_symbol.name) (saying 𝓛 𝓜 𝓡 c_judge.ended judge_clauses JudgeGives)
+  sgml_judge_meets wired = meets_so 𝓛 𝓜 𝓡 c_judge.ended judge_clauses (𝓡.env c_judge_symbol.name) JudgeGives (λ κs a g r ws. fact_mono 𝓤 _ _ (sgml_judge κs a r (at_exit c_judge.ended κs a ws))) (c_judge_met.met 𝓤 𝓛 𝓜 𝓡 wired)
 
   abbrev read_clauses : Clauses 𝓤 c_read.ended
-  read_clauses = c_read.clauses 𝓛 𝓜.mem 𝓡.run
+  read_clauses = c_read.clauses 𝓛 𝓜.mem 𝓡.returns
 
-  pub sgml_read_meets : RoutineMeets 𝓛 𝓜 𝓡 c_read.ended read_clauses c_read_symbol.routine (saying 𝓛 𝓜 𝓡 c_read.ended read_clauses ReadGives)
-  sgml_read_meets = meets_so 𝓛 𝓜 𝓡 c_read.ended read_clauses c_read_symbol.routine ReadGives (λ κs a g r ws. fact_mono 𝓤 _ _ (sgml_read κs a r (at_exit c_read.ended κs a ws))) (c_read_met.met 𝓤 𝓛 𝓜 𝓡)
+  pub sgml_read_meets : Wired 𝓡.env c_read_symbol.code → RoutineMeets 𝓛 𝓜 𝓡 c_read.ended read_clauses (𝓡.env c_read_symbol.name) (saying 𝓛 𝓜 𝓡 c_read.ended read_clauses ReadGives)
+  sgml_read_meets wired = meets_so 𝓛 𝓜 𝓡 c_read.ended read_clauses (𝓡.env c_read_symbol.name) ReadGives (λ κs a g r ws. fact_mono 𝓤 _ _ (sgml_read κs a r (at_exit c_read.ended κs a ws))) (c_read_met.met 𝓤 𝓛 𝓜 𝓡 wired)

@@ -1,5 +1,5 @@
 -- What is due behind a start tag or a run of data: what was settled before it, the starts that were inferred, and what is shown of its own events.
-use Rattle.std.specs.Prelude.{ℕ, zero, suc, ◌+◌, ◌-◌, ◌≤◌, ◌<◌, ◌≡◌, refl, Bool, true, false, List, [], ◌∷◌, ◌++◌, eqb}
+use Rattle.std.specs.Prelude.{ℕ, zero, suc, ◌-◌, ◌≤◌, ◌<◌, ◌≡◌, refl, Bool, true, false, List, [], ◌∷◌, ◌++◌, eqb}
 use Rattle.std.proofs.Common.{sym, ◌∙◌, ap, append_assoc, arith}
 use Rattle.rules.specs.Settings.{Settings}
 use Rattle.rules.specs.Events.{Event, start_written, data_run, end_of_empty}
