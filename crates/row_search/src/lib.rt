@@ -3,6 +3,7 @@
 // Whatever the tables hold, each function ends and stays within them: a link that does not fall ends the search. Where the places of a name are not
 // linked so, or rows and bits are no type's, what is found is not decided, but that it is at most 96.
 #![tactic(auto)]
+
 ghost use Rattle.std.specs.Prelude.{◌≡◌, ◌+◌, ◌*◌, ◌/◌, ◌%◌, ◌≤◌, ◌<◌};
 ghost use Rattle.rules.specs.Bytes.{GRPGTCNT, TAGLVL, element_limit};
 ghost use Rattle.layout.specs.Sizes.{POSITIONS};
