@@ -1,5 +1,6 @@
 // The name of an element that is declared: at most as long as the caller says, declared for the first time, and at most the 64th.
 #![tactic(auto)]
+
 ghost use Rattle.std.specs.Prelude.{◌≡◌, List, ◌≤◌, ◌<◌, length, get_or};
 ghost use Rattle.rules.specs.TypeFile.{is_declared, element_name};
 ghost use Rattle.rules.specs.TypeFile as rules;
