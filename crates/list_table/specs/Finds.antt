@@ -1,6 +1,6 @@
 -- What the table of lists says, and what the loops over it find.
-use Prim.Native.Nat.{ℕ, zero, suc, ◌+◌, ◌*◌, ◌-◌, ◌≤◌, ◌<◌}
-use Rattle.std.specs.Prelude.{◌≡◌, Bool, false, ◌||◌, ◌⊎◌, length, get_or, set, eqb, leb}
+use Prim.Native.Nat.{ℕ, zero, suc, ◌+◌, ◌*◌, ◌≤◌, ◌<◌}
+use Rattle.std.specs.Prelude.{◌≡◌, Bool, false, ◌||◌, ◌⊎◌, length, get_or, set, eqb}
 use Rattle.std.proofs.Math.Path.{refl, sym, ap}
 use Rattle.std.proofs.Common.{◌∙◌, subst, true≢false, inl, inr, length-append, length-set, get_or-set_same, get_or-set_other, eq-eqb, ne_eqb, le-leb}
 use Rattle.std.proofs.Math.Bool.{true, or-true}

@@ -6,6 +6,7 @@
 //
 // Whatever the table holds, each function ends and stays within it.
 #![tactic(auto)]
+
 ghost use Rattle.std.specs.Prelude.{◌≡◌, List, [], ◌∷◌, ◌++◌, ℕ, ◌+◌, ◌*◌, ◌-◌, ◌≤◌, ◌<◌, length, get_or};
 ghost use Rattle.rules.specs.Bytes.{ATTCNT, element_limit};
 ghost use Rattle.rules.specs.Attributes.{Attribute, attribute_of, needs_tag};
