@@ -1,5 +1,6 @@
 // The pieces of a document, read from its bytes.
 #![tactic(auto)]
+
 ghost use Rattle.std.specs.Prelude.{◌≡◌, ◌||◌, List, ℕ, ◌≤◌, ◌<◌, length, eqb};
 ghost use Rattle.rules.specs.Reading.{Reading};
 ghost use Rattle.rules.specs.Document as rules;

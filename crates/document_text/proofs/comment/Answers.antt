@@ -1,0 +1,7 @@
+use Rattle.document_text.proofs.comment.Goals as goal
+
+pub returns-in-At : goal.returns-in-At
+returns-in-At c = cc
+
+pub returns-in-Refused : goal.returns-in-Refused
+returns-in-Refused c = cc

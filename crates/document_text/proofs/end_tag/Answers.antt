@@ -1,0 +1,7 @@
+use Rattle.document_text.proofs.end_tag.Goals as goal
+
+pub returns-in-Read : goal.returns-in-Read
+returns-in-Read c = cc
+
+pub returns-in-Refused : goal.returns-in-Refused
+returns-in-Refused c = cc
