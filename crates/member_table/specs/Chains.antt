@@ -1,10 +1,10 @@
 -- The chain of "&" groups around a place, as far as the table has it: it ends where no member is kept yet, and the next group that is put makes it longer.
 use Rattle.std.specs.Prelude.{ℕ, suc, ◌+◌, ◌*◌, ◌≤◌, ◌≡◌, refl, Bool, true, false, ◌&&◌, cond, List, [], ◌∷◌, ◌++◌, get_or}
 use Rattle.std.proofs.Common.{sym, ◌∙◌, ap, subst, inl, inr, arith}
-use Rattle.rules.specs.Walk.{Members, one, also}
+use Rattle.rules.specs.Walk.{Group, Members, one, also}
 use Rattle.layout.specs.Sizes.{MEMBER, ENDING}
 use Rattle.basic_laws.specs.Truth.{or_left, or_right, or_cases, and_left, and_right, bool_cases}
-use Rattle.model_sets.specs.Sets.{has, has_m, last_m, amount}
+use Rattle.model_sets.specs.Sets.{has, has_m, last_m, amount, required_first}
 use Rattle.and_laws.specs.Sets.{GoodM}
 use Rattle.and_laws.specs.Levels.{together}
 use Rattle.and_laws.specs.Ranked.{Level}
@@ -94,7 +94,7 @@ module _ (e : ℕ) where
           size = K.size l.number to ∙ g.size;
           members =
               rw f
-              (each_map (first_at M e l.number) (needs l.members) l.members (λ n x r p. (K.group n (low n r) ∙ p.0, K.due n (low n r) ∙ p.1)) g.members);
+              (each_map {P = λ (n : ℕ) (x : Group). (group_at M e n ≡ l.number) × (due_at M e n ≡ required_first x)} {Q = λ (n : ℕ) (x : Group). (group_at S e n ≡ l.number) × (due_at S e n ≡ required_first x)} (first_at M e l.number) (needs l.members) l.members (λ n x r p. (K.group n (low n r) ∙ p.0, K.due n (low n r) ∙ p.1)) g.members);
         }
       where
         low : (n : ℕ) → InRange (first_at M e l.number) (needs l.members) (needs l.members) (spares l.members) n → n ≤ c

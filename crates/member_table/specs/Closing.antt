@@ -7,16 +7,16 @@ use Rattle.rules.specs.Bytes.{GRPCNT, GRPGTCNT}
 use Rattle.rules.specs.Walk.{Group, and, Members, one, also}
 use Rattle.layout.specs.Sizes.{MEMBER, POSITIONS, AND_GROUPS, LASTS, REACHES}
 use Rattle.basic_laws.specs.Truth.{bool_cases}
-use Rattle.model_sets.specs.Sets.{has_m, size, size_m, NumberedM, nullable, nullable_m, amount}
+use Rattle.model_sets.specs.Sets.{has_m, size, size_m, NumberedM, nullable, nullable_m, amount, required_first}
 use Rattle.and_laws.specs.Sets.{GoodM}
 use Rattle.model_code.specs.Spelled.{codes, codes_m}
-use Rattle.member_laws.specs.Members.{needs, first_at, needed_at, size_at, outer_at, Grouped}
+use Rattle.member_laws.specs.Members.{Each, needs, group_at, due_at, first_at, needed_at, size_at, outer_at, Grouped}
 use Rattle.member_laws.specs.Numbered.{amount_both}
 use Rattle.member_entries.specs.Entries.{record_from, put_record}
 use Rattle.member_entries.specs.Slots.{Slot}
 use Rattle.member_table.specs.declared.Piece.{Piece}
 use Rattle.member_table.specs.Filling.{State, piece_at, closed_piece, put_group, close_group}
-use Rattle.member_table.specs.Beside.{RowsM, second, marks, last_m_end}
+use Rattle.member_table.specs.Beside.{RowsM, EachMarks, second, marks, last_m_end}
 use Rattle.member_table.specs.Joined.{piece_of, Pieces, needed_is, each_map, rows_of, Joined, joins}
 use Rattle.member_table.specs.Chains.{base_of, Keeps, Closes}
 use Rattle.member_table.specs.States.{Common}
@@ -173,7 +173,8 @@ module _
       good
       high
       pieces
-      (rw (pieces_first t.stack first all lo pieces, pieces_second t.stack first m g lo pieces) (marks (rows_of T) m g lo numbered good rows))
+      (subst (λ (w : ℕ). EachMarks (rows_of T) w (piece_at t.stack (first + 1)).lo all) (sym (pieces_first t.stack first all lo pieces))
+      (subst (λ (v : ℕ). EachMarks (rows_of T) lo v all) (sym (pieces_second t.stack first m g lo pieces)) (marks (rows_of T) m g lo numbered good rows)))
       (omega arith)
       (omega (arith, amount_both all))
       begun
@@ -258,7 +259,9 @@ module _
         size =
             subst (λ (n : ℕ). size_at closed_members e n ≡ amount all) next
             (in_record (t.groups + 1) 2 (omega arith) ∙ record_size (base_of e) t.groups (t.count + 1) (needs all) (amount all) t.members room few);
-        members = rw new_first (each_map (t.count + 1) (needs all) all (λ n x r p. (p.0 ∙ next, p.1)) J.each);
+        members =
+            subst (λ (f : ℕ). Each (λ (n : ℕ) (x : Group). (group_at closed_members e n ≡ suc t.groups) × (due_at closed_members e n ≡ required_first x)) f (needs all) all) (sym new_first)
+            (each_map {P = λ (n : ℕ) (x : Group). (group_at closed_members e n ≡ t.groups + 1) × (due_at closed_members e n ≡ required_first x)} {Q = (λ (n : ℕ) (x : Group). (group_at closed_members e n ≡ suc t.groups) × (due_at closed_members e n ≡ required_first x))} (t.count + 1) (needs all) all (λ n x r p. (p.0 ∙ next, p.1)) J.each);
       }
 
   later_first : (n : ℕ) → t.groups + 1 < n → first_at closed_members e n ≡ first_at t.members e n

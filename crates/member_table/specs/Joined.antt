@@ -6,7 +6,7 @@ use Rattle.rules.specs.Walk.{Group, Members, one, also}
 use Rattle.rules.specs.Bytes.{GRPGTCNT}
 use Rattle.layout.specs.Sizes.{POSITIONS, MODEL_ROW, AND_GROUPS, ENDING, REACHES}
 use Rattle.basic_laws.specs.Truth.{bool_cases, not_both, or_none, no_from}
-use Rattle.model_sets.specs.Sets.{has, has_m, size, size_m, Numbered, NumberedM, nullable, last, last_m, required_first, amount}
+use Rattle.model_sets.specs.Sets.{has, has_m, size, size_m, Numbered, NumberedM, nullable, last_m, required_first, amount}
 use Rattle.and_laws.specs.Base.{Apart}
 use Rattle.and_laws.specs.Sets.{GoodM}
 use Rattle.and_laws.specs.Decide.{or_only}
@@ -153,7 +153,7 @@ module _ (base : ℕ) (T lasts : List ℕ) (groups own needed : ℕ) where
         kept = λ s v is some.
             let e = j.kept s v is some in
             p.kept s v is (omega (arith, e)) ∙ e;
-        each = (each_map own needed m (λ k x r q. ((away k (range_low r) (range_high r) (number_new own needed (needs m) (spares m) g k l r)).0 ∙ q.0, (away k (range_low r) (range_high r) (number_new own needed (needs m) (spares m) g k l r)).1 ∙ q.1)) j.each, (p.group, p.due));
+        each = (each_map {P = λ (n : ℕ) (x : Group). (get_or R (base + POSITIONS + n) 0 ≡ groups + 1) × (get_or R (base + 2 * POSITIONS + n) 0 ≡ required_first x)} {Q = λ (n : ℕ) (x : Group). (get_or S (base + POSITIONS + n) 0 ≡ groups + 1) × (get_or S (base + 2 * POSITIONS + n) 0 ≡ required_first x)} own needed m (λ k x r q. ((away k (range_low r) (range_high r) (number_new own needed (needs m) (spares m) g k l r)).0 ∙ q.0, (away k (range_low r) (range_high r) (number_new own needed (needs m) (spares m) g k l r)).1 ∙ q.1)) j.each, (p.group, p.due));
         rest = λ k b c d e.
             p.rest k b c (d (number_for own needed (needs m) (spares m) g) (number_from_lem own needed (needs m) (spares m) g) to) (e (number_for own needed (needs m) (spares m) g) (number_from_lem own needed (needs m) (spares m) g) to)
             ∙ j.rest k b c d e;

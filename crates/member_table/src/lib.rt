@@ -3,6 +3,7 @@
 // Groups count from 1 in the order of their ")", so that an inner one comes before those around it; members count from 1, group after group, in each those that
 // cannot be nothing first. What is kept of each says the crate member_entries.
 #![tactic(auto)]
+
 ghost use Rattle.std.specs.Prelude.{◌≡◌, ◌+◌, ◌*◌, ◌≤◌, ◌<◌};
 ghost use Rattle.rules.specs.Bytes.{GRPGTCNT};
 ghost use Rattle.layout.specs.Sizes.{AND_GROUPS, CONTENTS, MEMBERS, POSITIONS};
@@ -13,7 +14,7 @@ use layout::{AND_GROUPS, CODE, ElementNo, LASTS, MEMBER, MODEL, MODEL_ROWS, POSI
 const AND_CODE: usize = model_code::AND_CODE as usize;
 
 // A group on the stack: its places are those from `lo` to `last`; whether it can be nothing, and the place that it requires at its start, or 0.
-#[derive(Drop)]
+#[derive(Clone, Copy)]
 pub struct Piece {
     pub lo: u8,
     pub last: u8,
