@@ -315,7 +315,7 @@ required_never_inferred = kept.required_never_inferred
 -- "The value without quotes, handed to the caller, is a part of the document if written and a part of the type file if defaulted" (`value_bytes` of the rules): what
 -- `value` returns for the offset and length of an attribute event, which are those of the literal without its quotes (`attribute_event` of the rules).
 pub value_given : (κs : Lfts 1) (a : ArgsD value_call.signature κs) (r : Bor (List ℕ)) (e : AtExit value_call.ended κs) → value_reads.Learnt κs a r e
-    → now r ≡ value_bytes (now a.0) (now a.1.0) a.1.1.0 (record { at = a.1.1.1.0; size = a.1.1.1.1.0 })
+    → r.now ≡ value_bytes a.0.now a.1.0.now a.1.1.0 (record { at = a.1.1.1.0; size = a.1.1.1.1.0 })
 value_given κs a r e given = given
 
 -- Demand 3 by pairs at fault: a model is ambiguous exactly if it has one; of a model that was read, both its places are places of the model.

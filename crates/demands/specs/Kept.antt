@@ -1,5 +1,5 @@
 -- The demands proved, one theorem each: Demands has them together, to be read first.
-use Rattle.std.specs.Prelude.{ℕ, ◌-◌, ◌*◌, ◌<◌, ◌≤◌, ◌≡◌, refl, true, false, ◌||◌, ◌↔◌, List, ◌++◌, length, eqb}
+use Rattle.std.specs.Prelude.{ℕ, ◌-◌, ◌*◌, ◌<◌, ◌≤◌, ◌≡◌, refl, false, ◌||◌, ◌↔◌, List, ◌++◌, length, eqb}
 use Rattle.std.proofs.Common.{sym, ◌∙◌, ap, ⊎_elim, arith, le-leb}
 use Rattle.std.proofs.lemmas.Bool.{not-true}
 use Rattle.rules.specs.Settings.{Settings, is_offered}

@@ -71,6 +71,7 @@ module _ (long : ℕ) (s : List ℕ) where
   unrepeated_none es r o (g, ps, (e, n, m, i), x) = x (rw i at (guarded_member es (type_file_guarded long s es r o) m))
     where
       guarded_member : (fs : List Element) → AllGuarded fs → {e : Element} → Memᴰ e fs → GuardedIn e.content
+      guarded_member [] d m = elim m [ ]
       guarded_member (f ∷ fs) d (Memᴰ.head e) = rw e d.0
       guarded_member (f ∷ fs) d (Memᴰ.tail m) = guarded_member fs d.1 m
 
