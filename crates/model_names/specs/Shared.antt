@@ -1,13 +1,11 @@
 -- Laws of a model's places, as the code keeps them, and of the names that they share.
-use Rattle.std.specs.Prelude.{ℕ, zero, suc, ◌+◌, ◌-◌, ◌*◌, ◌≤◌, ◌<◌, ◌≡◌, refl, Bool, true, false, List, [], ◌∷◌, ◌++◌, length, get_or, set, eqb}
+use Rattle.std.specs.Prelude.{ℕ, zero, suc, ◌+◌, ◌-◌, ◌*◌, ◌≤◌, ◌<◌, ◌≡◌, refl, Bool, false, List, [], ◌∷◌, ◌++◌, length, get_or, set}
 use Rattle.std.proofs.Common.{sym, ◌∙◌, not-suc-le-zero, add-one, arith, length-append, length-set, get_or-set_same, get_or-set_other, eq-eqb, ne_eqb}
 use Rattle.std.proofs.Math.Decide.{ℕ_discrete}
-use Rattle.std.proofs.Math.Dec.{eqb-suc-zero}
 use Rattle.rules.specs.Bytes.{byte_at, fold, same_text}
 use Rattle.rules.specs.TypeFile.{Place, same_name}
 use Rattle.rules.specs.Judge.{place_at, same_place}
-use Rattle.text.specs.Words.{same_text_at, same_text_first, same_text_last}
-use Rattle.rules_laws.specs.Names.{place_at_append, place_at_next, same_name_split}
+use Rattle.rules_laws.specs.Names.{place_at_append, place_at_next}
 use Rattle.model_names.specs.Places.{place_in, places_of, middle, key_of}
 
 -- The first n places of a table.
@@ -77,19 +75,3 @@ pub key_some : (s : List ℕ) (x : Place) (n at a b c : ℕ) → n ≡ x.size �
     → a ≡ fold (byte_at s at) → b ≡ fold (byte_at s (at + (n - 1))) → c ≡ fold (byte_at s (at + middle n)) → (a * 256 + b) * 256 + c ≡ key_of s x
 unfolding key_of
 key_some s x n at a b c e ne f g h i = rw (key_of, ← e, ← f, ne_eqb n 0 ne, g, h, i)
-
--- Places with the same name share their key.
-pub same_key : (s : List ℕ) (a b m n : ℕ) → m ≡ n → same_text s a s b n ≡ true → key_of s (record { at = a; size = m }) ≡ key_of s (record { at = b; size = n })
-unfolding key_of
-same_key s a b m zero e t = rw e
-same_key s a b m (suc n) e t =
-    let z : suc n - 1 ≡ n = omega arith in
-    let within : middle (suc n) < suc n = omega arith in
-    rw (e, key_of, eqb-suc-zero n, z, same_text_first s a s b n t, same_text_last s a s b n t, same_text_at s a s b (suc n) (middle (suc n)) t within)
-
-pub key_differs : (s names : List ℕ) (n p q : ℕ) → 1 ≤ p → p ≤ n → 1 ≤ q → q ≤ n → same_place s (places_of names n) p q ≡ true → key_of s (place_in names (p - 1)) ≡ key_of s (place_in names (q - 1))
-key_differs s names n p q a b c d r =
-    let x = place_in names (p - 1) in
-    let y = place_in names (q - 1) in
-    let (e, t) = same_name_split s x.at x.size y.at y.size (sym (same_places s names n p q a b c d) ∙ r) in
-    same_key s x.at y.at x.size y.size e t

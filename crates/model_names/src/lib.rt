@@ -1,5 +1,6 @@
 // The names of a model's places: where each stands in the type file and how long it is.
 #![tactic(auto)]
+
 ghost use Rattle.std.specs.Prelude.{◌≡◌, [], ◌∷◌, ◌++◌, ℕ, ◌+◌, ◌*◌, ◌-◌, ◌≤◌, ◌<◌, length, get_or, set};
 ghost use Rattle.rules.specs.Bytes.{byte_at, fold, GRPGTCNT};
 ghost use Rattle.rules.specs.Judge.{same_place};

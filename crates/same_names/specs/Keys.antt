@@ -11,7 +11,7 @@ use Rattle.rules.specs.Judge.{same_place}
 use Rattle.layout.specs.Sizes.{POSITIONS}
 use Rattle.basic_laws.specs.Truth.{not_true, or_left, or_right, not_both}
 use Rattle.model_names.specs.Places.{place_in, places_of, key_of}
-use Rattle.model_names.specs.Shared.{key_differs}
+use Rattle.model_names.proofs.Keys.{key_differs}
 
 -- One of the n numbers from q on has that key.
 unfoldable pub any_key : List ℕ → (key n q : ℕ) → Bool

@@ -1,0 +1,2 @@
+-- What follows from a key.
+pub mod Keys
