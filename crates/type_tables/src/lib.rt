@@ -16,6 +16,7 @@
 // Whatever the tables hold, each function ends and stays within them. Where they are no type's, what `fitting`, `startable` and `inferable`
 // answer is not decided, but that a place is at most 96 and an element at most 64.
 #![tactic(auto)]
+
 ghost use Rattle.std.specs.Prelude.{◌≡◌, Bool, List, [], ℕ, ◌+◌, ◌*◌, ◌%◌, ◌≤◌, ◌<◌, length, get_or, leb};
 ghost use Rattle.rules.specs.TypeFile.{Element};
 ghost use Rattle.rules.specs.Elements.{content_of, has_model, start_o, end_o};
