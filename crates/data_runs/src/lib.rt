@@ -1,5 +1,6 @@
 // Runs of data: where one ends.
 #![tactic(auto)]
+
 ghost use Rattle.std.specs.Prelude.{◌≡◌, ◌+◌, ◌≤◌, ◌<◌, length};
 ghost use Rattle.rules.specs.Settings.{least_name_length};
 ghost use Rattle.rules.specs.Document.{declaration_piece, markup_piece};
