@@ -3,6 +3,7 @@
 // `lists` is that of the crate list_table, `given` has the attributes of a tag as they are read (crate tag_attributes). `marks` has for each attribute of the element where its written value begins in the document, and how
 // long it is; 0 where it is not written.
 #![tactic(auto)]
+
 ghost use Rattle.std.specs.Prelude.{◌≡◌, true, false, List, ℕ, ◌+◌, ◌*◌, ◌-◌, ◌≤◌, ◌<◌, length, get_or};
 ghost use Rattle.rules.specs.Bytes.{ATTCNT, document_limit, element_limit, type_limit};
 ghost use Rattle.rules.specs.Reading.{refused, got};

@@ -1,0 +1,12 @@
+use native.Mathlib.Omega.{arith}
+use Rattle.attribute_marks.specs.Marking.{cleared_first, cleared_turn}
+use Rattle.attribute_marks.proofs.clear.Goals as goal
+
+pub loop-k-init : goal.loop-k-init
+loop-k-init c = (omega arith, omega arith, cleared_first _ (omega arith))
+
+pub loop-k-preserved : goal.loop-k-preserved
+loop-k-preserved c = (omega arith, omega arith, cleared_turn _ _ (omega arith) c.loop-k.invariant.2)
+
+pub returns : goal.returns
+returns c = λ k h. c.loop-k.invariant.2.none k (omega arith)
