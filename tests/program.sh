@@ -1,9 +1,9 @@
 # The proved program on every vector, at the limits of its inputs and its numbers, on files that come in pieces or stand under each
-# other's name, and where a file is missing.
+# other's name, and where a file is missing. PROGRAM names another build of it.
 set -eu
 cd "$(dirname "$0")/.."
-program=$PWD/target/bin/sgml_events
-[ -x "$program" ] || { echo "target/bin/sgml_events is not there: rt check sgml_events makes it"; exit 1; }
+program=${PROGRAM:-$PWD/crates/sgml_events/out/sgml_events}
+[ -x "$program" ] || { echo "$program is not there: rt run in crates/sgml_events makes it"; exit 1; }
 room=$(mktemp -d)
 trap 'rm -rf "$room"' EXIT
 passed=0

@@ -1,7 +1,7 @@
 // The text that the small program prints for a type file and a document.
 #![tactic(auto)]
 ghost use Rattle.std.specs.Prelude.{◌≡◌, ◌≤◌, length, take};
-ghost use Rattle.io.specs.Counts.{IsPrefixLen};
+ghost use Rattle.file_reader.specs.Loaded.{IsPrefixLen};
 ghost use Rattle.rules.specs.Printed.{program_settings, Prints};
 ghost use Rattle.layout.specs.Sizes.{ATTRIBUTE_RECORDS, PROGRAM_EVENTS, PROGRAM_TEXT};
 ghost use Rattle.inputs.specs.Checks.{settings_of};

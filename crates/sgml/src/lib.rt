@@ -1,4 +1,4 @@
-// The calls for C: numbers and byte slices.
+// The calls for C: numbers and byte slices. The crate sgml_c exports them.
 #![tactic(auto)]
 ghost use Rattle.std.specs.Prelude.{◌≡◌};
 ghost use Rattle.rules.specs.Settings.{settings};
@@ -38,8 +38,7 @@ fn numbers_of(v: Verdict) -> [u32; ANSWER]
 // The type judge for C. `name_length` is how long a name may be, `edition` by which rule record ends are read, which no type asks; `buffer`
 // gets six numbers of four bytes for each element, or is zeroed; `answer` gets the refusal number, input, position, the two places and the
 // count. The refusal number is returned as well, so that a compiler can say where it is left unread.
-#[unsafe(no_mangle)]
-pub extern "C" fn sgml_judge(
+pub fn sgml_judge(
     type_file: &[u8],
     buffer: &mut [u8],
     answer: &mut [u32; ANSWER],
@@ -57,8 +56,7 @@ pub extern "C" fn sgml_judge(
 // The document reader for C. `name_length` is how long a name may be, `edition` by which rule record ends are read; `buffer` gets five
 // numbers of four bytes for each event, or is zeroed; `answer` gets the refusal number, input, position, the two places and the count. The
 // refusal number is returned as well.
-#[unsafe(no_mangle)]
-pub extern "C" fn sgml_read(
+pub fn sgml_read(
     type_file: &[u8],
     document: &[u8],
     buffer: &mut [u8],
@@ -82,8 +80,7 @@ pub extern "C" fn sgml_read(
 // The attributes of a type for C. `name_length` is how long a name may be, `edition` by which rule record ends are read, which no type asks;
 // `buffer` gets nine numbers of four bytes for each attribute, or is zeroed; `answer` gets the refusal number, input, position, the two
 // places and the count. The refusal number is returned as well.
-#[unsafe(no_mangle)]
-pub extern "C" fn sgml_attributes(
+pub fn sgml_attributes(
     type_file: &[u8],
     buffer: &mut [u8],
     answer: &mut [u32; ANSWER],
@@ -101,8 +98,7 @@ pub extern "C" fn sgml_attributes(
 // The documents of a batch for C: parts of one string under one type. `starts` and `lengths` say where each part starts and how many bytes it has, `froms` and
 // `sizes` likewise its stretch of `buffer`, in bytes; `answers` gets the six numbers of the answer to each, and its stretch five numbers of four bytes for each
 // event, or is zeroed. `answer` gets the six numbers of the answer to the whole call. Its number is returned as well.
-#[unsafe(no_mangle)]
-pub extern "C" fn sgml_read_batch(
+pub fn sgml_read_batch(
     type_file: &[u8],
     string: &[u8],
     starts: &[usize],
