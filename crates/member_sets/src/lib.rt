@@ -1,6 +1,7 @@
 // What the crates and_groups and and_next ask of the groups around a group, besides what the crate member_table has put: the members that hold it, those of the groups around
 // it, how far out these can end with it; and which members cannot be nothing.
 #![tactic(auto)]
+
 ghost use Rattle.std.specs.Prelude.{◌≡◌, ◌+◌, ◌*◌, ◌/◌, ◌%◌, ◌^◌, ◌≤◌, ◌<◌, length, set};
 ghost use Rattle.rules.specs.Bytes.{element_limit};
 ghost use Rattle.layout.specs.Sizes.{REACHES, MEMBER, MEMBERS, AND_GROUPS, CONTENTS, ENDING, MEMBER_BITS, POSITIONS};
@@ -46,7 +47,7 @@ fn put_bits(members: &mut [u8], i: usize, b: Bits)
 }
 
 // What is put of a group: the members that hold it, those of the group and of those around it, and how far out these can end with it.
-#[derive(Drop)]
+#[derive(Clone, Copy)]
 pub struct Sets {
     pub holding: Bits,
     pub among: Bits,
