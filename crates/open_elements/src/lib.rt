@@ -1,5 +1,6 @@
 // The open elements from token to token: what is taken, opened and ended in them.
 #![tactic(auto)]
+
 ghost use Rattle.std.specs.Prelude.{◌≡◌, true, ◌+◌, ◌-◌, ◌≤◌, ◌<◌};
 ghost use Rattle.rules.specs.Settling.{shown, is_open};
 ghost use Rattle.rules.specs.Bytes.{GRPGTCNT, TAGLVL, element_limit};
@@ -11,7 +12,7 @@ use layout::{BEGUN, ElementNo, GRPGTCNT, Place, RAISE, ROWS, TAGLVL};
 
 // An open element, the place that was taken last in it, or 0, and its marks: whether its content is complete there, and
 // the place that is required, or 0. Each number is kept in a byte: `of` alone puts them there, and the methods alone read them.
-#[derive(Drop)]
+#[derive(Clone, Copy)]
 pub struct Entry {
     pub element: u8,
     pub place: u8,
@@ -24,7 +25,7 @@ pub struct Entry {
 // nothing is open the current element is the document itself (element 0).
 //
 // A method that reaches into the array copies it to a local and puts it back: so it stays in one place.
-#[derive(Drop)]
+#[derive(Clone, Copy)]
 pub struct OpenElements {
     pub around: [Entry; TAGLVL],
     pub count: usize,
