@@ -1,5 +1,6 @@
 // Connectors and occurrence indicators: two groups of a model joined, a group repeated or left out, each with what it adds to the model's table.
 #![tactic(auto)]
+
 ghost use Rattle.std.specs.Prelude.{◌≡◌, ◌&&◌, ◌||◌, List, eqb, ℕ, ◌+◌, ◌≤◌, length};
 ghost use Rattle.rules.specs.TypeFile.{Tokens, occurrence, is_connector, earlier};
 ghost use Rattle.rules.specs.Bytes.{GRPGTCNT, type_limit};
@@ -81,6 +82,7 @@ pub fn with_occurrence(s: &[u8], table: &mut [u8; MODEL], lo: usize, m: Model) -
 }
 
 // Whether a connector may stand after others: ",", "|" or "&", one kind in a group. `c` is the group's, 0 if there was none yet.
+#[tactic(auto, unfolding(rules::specs::TypeFile::is_connector))]
 pub fn is_connector(b: u8, c: u8) -> bool
     ensures { result ≡ is_connector b && (eqb c 0 || eqb c b) }
 {
@@ -92,6 +94,7 @@ pub fn is_connector(b: u8, c: u8) -> bool
 }
 
 // The first of two positions of which the first is the earlier; 0 is none.
+#[tactic(auto, unfolding(rules::specs::TypeFile::earlier))]
 fn earlier(i: u16, j: u16) -> u16
     ensures { result ≡ earlier i j }
 {
