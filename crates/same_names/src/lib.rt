@@ -1,5 +1,6 @@
 // The places of a content model that have the same name, found by their keys.
 #![tactic(auto)]
+
 ghost use Rattle.std.specs.Prelude.{◌≡◌, true, ℕ, suc, ◌+◌, ◌-◌, ◌≤◌, ◌<◌, get_or};
 ghost use Rattle.rules.specs.Judge.{same_place};
 ghost use Rattle.rules.specs.Bytes.{GRPGTCNT};
