@@ -2,6 +2,7 @@
 //
 // `seen` has the tokens of a list so far: of each where it stands and how long it is.
 #![tactic(auto)]
+
 ghost use Rattle.std.specs.Prelude.{◌≡◌, ◌&&◌, ◌||◌, List, [], ◌∷◌, ◌++◌, ◌+◌, ◌≤◌, ◌<◌, ◌*◌, length, eqb};
 ghost use Rattle.rules.specs.Bytes.{ATTCNT, GRPCNT, type_limit};
 ghost use Rattle.rules.specs.Attributes.{Part};
