@@ -3,6 +3,7 @@
 // `lists` is that of the crate list_table, `marks` that of attribute_marks. n is how many events there are so far; they are put to `numbers` and
 // `bytes` (crate event_buffer).
 #![tactic(auto)]
+
 ghost use Rattle.std.specs.Prelude.{◌+◌, ◌≤◌, ◌<◌};
 ghost use Rattle.rules.specs.Bytes.{ATTCNT, element_limit};
 ghost use Rattle.attribute_events.specs.PutBefore.{PutsOne, PutsWritten, PutsDefaults};
