@@ -2,6 +2,7 @@
 //
 // The layout is that of the crate type_tables.
 #![tactic(auto)]
+
 ghost use Rattle.std.specs.Prelude.{◌≡◌, ◌+◌, ◌*◌, ◌≤◌, ◌<◌, length, get_or};
 ghost use Rattle.rules.specs.Bytes.{GRPGTCNT, element_limit};
 ghost use Rattle.layout.specs.Sizes.{MODEL, ROWS, MODEL_ROW, POSITIONS, RAISE};
