@@ -1,7 +1,7 @@
 use native.Mathlib.Omega.{arith}
+use borrow.Author.Rules.{rules}
 use lib.ListN.{length}
 use Rattle.attribute_marks.specs.Turns.{right, later, first, kept_in_lem, going_first, going_turn, going_stop, going_misfit, going_end}
-use Rattle.attribute_marks.proofs.marked.Goals.{then-r-eq22+then-misfit-eq0, then-r-eq22+else-misfit-eq0, else-r-eq22}
 use Rattle.attribute_marks.proofs.marked.Goals as goal
 
 pub loop-k-init : goal.loop-k-init
@@ -22,11 +22,7 @@ loop-k-preserved c = let a = c.args in (
   omega arith,
   omega arith,
   going_turn _ a.s.now a.lists.now _ a.d.now a.given.now _ _ _ _ c.loop-k.invariant.2 _ c.kept-w.ensures _ _ c.mark-r.ensures c.if-r-eq20.false _
-      (elim c.if-r-eq22.branch [
-        | then-r-eq22+then-misfit-eq0 w ↦ first w.if-r-eq22.true (omega (arith, w.if-misfit-eq0.true)) w.misfit-is
-        | then-r-eq22+else-misfit-eq0 w ↦ later (λ z. omega (arith, w.if-misfit-eq0.false, z)) w.misfit-is
-        | else-r-eq22 w ↦ right w.if-r-eq22.false w.misfit-is
-      ]),
+      (search (rules, right, later, first)),
 )
 
 pub returns-then-misfit-ne0 : goal.returns-then-misfit-ne0
