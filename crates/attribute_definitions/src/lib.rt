@@ -2,6 +2,7 @@
 //
 // `list` has the attributes of the list so far (crate list_table), `seen` the tokens of their groups (crate name_tokens).
 #![tactic(auto)]
+
 ghost use Rattle.std.specs.Prelude.{◌≡◌, List, ◌+◌, ◌*◌, ◌≤◌, ◌<◌, length};
 ghost use Rattle.rules.specs.Bytes.{ATTCNT, GRPCNT, type_limit};
 ghost use Rattle.rules.specs.Attributes.{Attribute};
