@@ -5,6 +5,7 @@
 // Where the tables are no type's, or the state stands in none, which ends and starts are inferred is not decided, but that the state's numbers are
 // in range and that so many events were put as are counted.
 #![tactic(auto)]
+
 ghost use Rattle.std.specs.Prelude.{◌+◌, ◌≤◌, ◌<◌};
 ghost use Rattle.rules.specs.Bytes.{TAGLVL, element_limit};
 ghost use Rattle.layout.specs.Sizes.{TOKEN_EVENTS};

@@ -1,0 +1,8 @@
+use Rattle.inferring.specs.Inferring.{Turns}
+use Rattle.inferring.proofs.ends.Given as goal
+
+abbrev pub invariant-loop-w : goal.invariant-loop-w
+invariant-loop-w l = Turns l.rows l.places l.facts l.members l.begun l.x.0 l.at l.n l.initial.o l.initial.numbers l.initial.bytes l.o l.m l.numbers l.bytes
+
+abbrev pub decreases-loop-w : goal.decreases-loop-w
+decreases-loop-w l = l.o.count
