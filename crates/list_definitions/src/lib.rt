@@ -1,5 +1,6 @@
 // The definitions of one attribute list, as rows of a list by itself (crate list_table).
 #![tactic(auto)]
+
 ghost use Rattle.std.specs.Prelude.{◌≡◌, ◌&&◌, ◌+◌, ◌≤◌, ◌<◌, length, eqb, leb};
 ghost use Rattle.rules.specs.TypeFile.{list_from};
 ghost use Rattle.rules.specs.Bytes.{MDC, type_limit};
