@@ -47,12 +47,21 @@ class Fn:
         self.rec = rec
         self.parent, self.own, self.callee = {}, {}, {}
         self.newplace = {}
+        self.renamed = {}
+        self.arms = {}
+        self.clauses = {}
         for p, q in zip(rec["places"], rec["places_by_name"]):
             t, parent, (of, nf) = p[0], p[1], p[2]
             self.parent[t] = parent
             self.own[t] = (of, nf)
             self.newplace[t] = q
             self.callee[t] = p[3]
+            self.renamed[t] = dict(p[4]) if p[4] else {}
+        for p, a, c in zip(rec["places"], rec["arms"], rec["clauses"]):
+            if a:
+                self.arms[p[0]] = a
+            if c:
+                self.clauses[p[0]] = c
         # lookup by normalised name too
         self.byn = {}
         for t in self.parent: self.byn.setdefault(norm(t), t)
@@ -74,6 +83,29 @@ class Fn:
             if t is None: return None
             t = self.parent.get(t)
         return t
+
+    def arm(self, t, name, rest):
+        """What a `match` told under an older name, by its arm: (new name, what is left of the path)."""
+        x = t
+        while x is not None:
+            a = self.arms.get(x)
+            if a:
+                for new, step, path in a[2]:
+                    if norm(step) == norm(name) and path and rest[: len(path)] == path:
+                        return [a[0], new] + rest[len(path) :]
+            x = self.parent.get(x)
+        return None
+
+    def at_field(self, t, name):
+        """The place at which the step `name` was taken, as seen from t."""
+        n = norm(name)
+        x = t
+        while x is not None:
+            o, nw = self.own[x]
+            if norm(o) == n or norm(nw) == n:
+                return x
+            x = self.parent.get(x)
+        return None
 
     def field(self, t, name):
         """the new name of the step `name` as seen from place t"""
@@ -108,10 +140,41 @@ def rewrite(text, env, fn, notes):
         while i < len(parts) and parts[i] == "before": n += 1; i += 1
         at = fn.up(place, n)
         if i == len(parts):
+            # passed to a helper: the place that it takes decides how far back it lies
+            head = re.search(r"(" + W + r") \(?$", text[max(0, m.start() - 80) : m.start()])
+            to = fn.params.get(head.group(1)) if head else None
+            if to is None:
+                to = fn.goal_place
+            if to is not None:
+                k, x = 0, place
+                while x is not None and x != to:
+                    x = fn.parent.get(x)
+                    k += 1
+                if x is not None:
+                    n = k
             return v + ".before" * (n + deep) if (n or deep) else v
         f = parts[i]
         rest = parts[i + 1 :]
+        if f == "pre":
+            pre = fn.rec.get("pre")
+            if pre and rest and rest[0].isdigit() and int(rest[0]) < len(pre["fields"]):
+                return ".".join([v, "requires", pre["fields"][int(rest[0])]] + rest[1:])
+            return ".".join([v, "requires"] + rest)
+        if at and deep:
+            told = fn.arm(at, f, rest)
+            if told:
+                return ".".join([v] + told)
+        if at and rest and rest[0] == "ensures" and len(rest) > 1 and rest[1].isdigit():
+            where = fn.at_field(at, f)
+            names = fn.clauses.get(where)
+            if isinstance(names, dict):
+                names = names.get("fields")
+            if isinstance(names, list) and int(rest[1]) < len(names) and isinstance(names[int(rest[1])], str):
+                rest[1] = names[int(rest[1])]
+        f = {"is_IsWord": "is_word"}.get(f, f)
         new = fn.field(at, f) if at else None
+        if new is None and place:
+            new = fn.field(place, f)
         if new is None and f in ("args", "requires", "lifetimes", "ranges", "well_formed"): new = f
         if new is None:
             notes.append(f"no step {f} at {at} in {t}")
@@ -178,13 +241,57 @@ def args_of(sig):
     return [o for o in out if o[1] != "{}"], parts[-1]
 
 
+def as_record(b, fields):
+    """A tuple for several clauses, as a record by their names."""
+    s = b.strip()
+    if s.endswith(")") and not s.startswith("(") and s.startswith("let "):
+        depth = 0
+        for at in range(len(s) - 1, -1, -1):
+            depth += (s[at] == ")") - (s[at] == "(")
+            if depth == 0:
+                break
+        tail = as_record(s[at:], fields)
+        return s[:at] + tail if tail.startswith("record") and s[:at].rstrip().endswith("in") else b
+    if not s.startswith("("):
+        return b
+    depth, cuts = 0, [0]
+    for at, ch in enumerate(s):
+        depth += (ch in "([{") - (ch in ")]}")
+        if depth == 0 or (depth == 1 and ch == ","):
+            cuts.append(at)
+        if depth == 0:
+            break
+    if at != len(s) - 1:
+        return b
+    each = [s[x + 1 : y].strip() for x, y in zip(cuts, cuts[1:])]
+    each = [e for e in each if e]
+    if len(each) != len(fields):
+        return b
+    bare = lambda it: f"({it})" if re.match(r"λ|let ", it) else it
+    return "record { " + "; ".join(f"{f} = {bare(e)}" for f, e in zip(fields, each)) + " }"
+
+
 TIE = re.compile(r"tie\.(" + W + r")((?:\s+(?:invariant|decreases|inv|μ|measure|the-)[-\w₀-₉]*)*)")
+
+
+def many_clauses(path, crate):
+    """Whether the function has clauses with names."""
+    name = os.path.basename(path.rstrip("/"))
+    src = os.path.join(path.split("/proofs/")[0], "src")
+    for f in os.listdir(src):
+        m = re.search(r"fn " + re.escape(name) + r"\(.*?\n\s*\{\n", open(os.path.join(src, f), encoding="utf-8").read(), re.S)
+        if m:
+            return bool(re.search(r"(?m)^\s*(requires|ensures) [a-z_0-9]+ \{", m.group(0)))
+    return False
 
 
 def convert(path, rec, crate):
     notes = []
     fn = Fn(rec)
     fn.results = {}
+    fn.params = {}
+    fn.goal_place = None
+    fn.many = many_clauses(path, crate)
     text = open(os.path.join(path, "Proof.antt"), encoding="utf-8").read()
     bl = blocks(text)
     rel = path.split("/proofs/")[1].rstrip("/").replace("/", ".")
@@ -198,6 +305,10 @@ def convert(path, rec, crate):
         a, res = args_of(m.group(1))
         mm = TIE.fullmatch(res.strip())
         if mm and fn.place(mm.group(1)): fn.results[name] = fn.place(mm.group(1))
+        for _, ty in a:
+            mm = TIE.fullmatch(ty.strip())
+            if mm and fn.place(mm.group(1)):
+                fn.params.setdefault(name, fn.place(mm.group(1)))
     invnames = {}
     for name, lines in bl:
         comments = [l for l in lines if l.startswith("--")]
@@ -272,7 +383,11 @@ def convert(path, rec, crate):
                 notes.append(f"{name} takes no c")
             env = {c: (place, 1)} if place else {}
             b = rewrite(b, env, fn, notes)
-            ans.append("\n".join(comments + [f"pub {new} : goal.{new}", (unf + f"{new} {c} = {b}" if binders else unf + f"{new} = {b}")]))
+            fields = fn.rec.get("asked", {}).get(new)
+            if fields:
+                b = as_record(b, fields)
+            more = "".join(" " + x for x in binders[1:] if not x.startswith("κs"))
+            ans.append("\n".join(comments + [f"pub {new} : goal.{new}", (unf + f"{new} {c}{more} = {b}" if binders else unf + f"{new} = {b}")]))
             continue
         # a helper
         a, res = args_of(sig.group(3))
@@ -301,7 +416,10 @@ def convert(path, rec, crate):
             for (n, t), b in zip(a, binders):
                 mm = TIE.fullmatch(t.strip())
                 if mm and fn.place(mm.group(1)): en[b] = (fn.place(mm.group(1)), 0)
+            if re.fullmatch(r"\s*" + W + r"(?:\.before)*\s*", em.group(3)):
+                fn.goal_place = fn.results.get(name)
             outeq.append(em.group(1) + em.group(2) + " =" + rewrite(TIE.sub(tie, em.group(3)), en, fn, notes).rstrip())
+            fn.goal_place = None
         ans.append("\n".join(comments + [sig.group(1) + sig.group(2) + " :" + newsig.rstrip()] + ([unf.rstrip()] if unf else []) + outeq))
     # write
     mod = f"Rattle.{crate}.proofs.{rel}"
@@ -312,11 +430,12 @@ def convert(path, rec, crate):
         pl = []
         extra = []
         if usedplaces:
-            extra = ([f"use {mod}.Tie as tie"] if any(x and "::" in x for x in fn.callee.values()) else []) + [f"use {mod}.Lts as lts", f"use {mod}.Reads as reads"]
+            extra = ([f"use {mod}.Tie as tie"] if fn.rec.get("pre") or fn.many or fn.rec.get("asked") or any(fn.rec["clauses"]) or any(x and "::" in x for x in fn.callee.values()) else []) + [f"use {mod}.Lts as lts", f"use {mod}.Reads as reads"]
             it = ""
             for names, _ in fn.loops: it += f" goal.the-invariant-{names[1]} goal.the-decreases-{names[1]}"
+            handed = " tie.handed_clauses" if fn.rec.get("pre") or fn.many or fn.rec.get("asked") or any(fn.rec["clauses"]) else ""
             claims = " tie.the-claims" if any(x and "::" in x for x in fn.callee.values()) else ""
-            for p in sorted(usedplaces): pl.append(f"abbrev {p} : Type 0\n{p} = lts.{p}{claims} reads.Pre reads.Post{it}")
+            for p in sorted(usedplaces): pl.append(f"abbrev {p} : Type 0\n{p} = lts.{p}{claims} reads.Pre reads.Post{handed}{it}")
         t = "\n".join(([] if inv else head) + uses + [f"use {mod}.Goals as goal"] + extra) + "\n\n" + "\n\n".join(pl + ans) + "\n"
         open(os.path.join(path, "Answers.antt"), "w", encoding="utf-8").write(t)
     os.remove(os.path.join(path, "Proof.antt"))

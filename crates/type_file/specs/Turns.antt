@@ -40,7 +40,7 @@ module _ (ls : List AttList) where
     listed_unambiguous k [] a = a
     listed_unambiguous k (e ∷ es) a = (a.0, listed_unambiguous (k + 1) es a.1)
 
-    listed_ambiguous : (k : ℕ) {at p q : ℕ} {es : List Element} → FirstAmbiguous s at p q es → FirstAmbiguous s at p q (listed k ls es)
+    listed_ambiguous : {at p q : ℕ} {es : List Element} (k : ℕ) → FirstAmbiguous s at p q es → FirstAmbiguous s at p q (listed k ls es)
     unfolding listed
     listed_ambiguous k (here x) = here x
     listed_ambiguous k (later u f) = later u (listed_ambiguous (k + 1) f)
