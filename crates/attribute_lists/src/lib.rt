@@ -2,6 +2,7 @@
 //
 // `heads` has for each element where its name ends in its list, or 0 where it has none.
 #![tactic(auto)]
+
 ghost use Rattle.std.specs.Prelude.{◌≡◌, List, ℕ, ◌+◌, ◌*◌, ◌≤◌, ◌<◌, length, replicate};
 ghost use Rattle.rules.specs.Attributes.{AttList};
 ghost use Rattle.rules.specs.TypeFile.{same_name, declared_from, listed_element, attribute_list, attributes_of};
