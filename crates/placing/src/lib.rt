@@ -6,6 +6,7 @@
 // Where the tables are no type's, or the state stands in none, what a token brings is not decided, but that the state's numbers are in range,
 // that the refusal number is below 20, and that so many events were put as are counted.
 #![tactic(auto)]
+
 ghost use Rattle.std.specs.Prelude.{◌+◌, ◌≤◌, ◌<◌};
 ghost use Rattle.rules.specs.Bytes.{GRPGTCNT, element_limit};
 ghost use Rattle.open_elements.specs.Stands.{Ranged};
