@@ -1,5 +1,6 @@
 // The content tokens of a model that are no groups: a name and `#PCDATA`, each with what it adds to the model's places and to its table.
 #![tactic(auto)]
+
 ghost use Rattle.std.specs.Prelude.{◌≡◌, false, ◌+◌, ◌*◌, ◌≤◌, ◌<◌, length};
 ghost use Rattle.rules.specs.TypeFile.{name_token, data_token};
 ghost use Rattle.rules.specs.Bytes.{GRPGTCNT, type_limit};
