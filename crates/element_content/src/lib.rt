@@ -1,5 +1,6 @@
 // The content of an element: EMPTY, or a model group with its names and its table.
 #![tactic(auto)]
+
 ghost use Rattle.std.specs.Prelude.{◌≡◌, ◌≤◌, ◌<◌, length};
 ghost use Rattle.rules.specs.TypeFile.{content_word, content_model, content};
 ghost use Rattle.rules.specs.Bytes.{type_limit};
