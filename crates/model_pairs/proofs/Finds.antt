@@ -1,5 +1,5 @@
 -- The search of a model's tables finds the model's first pair at fault, in the rules' terms.
-use Rattle.std.specs.Prelude.{ℕ, zero, suc, ◌+◌, ◌≤◌, ◌≡◌, Bool, true, false, ◌&&◌, List, [], ◌∷◌, ◌++◌, eqb}
+use Rattle.std.specs.Prelude.{ℕ, zero, suc, ◌≤◌, ◌≡◌, Bool, true, false, ◌&&◌, List, [], ◌∷◌, ◌++◌, eqb}
 use Rattle.std.proofs.Common.{sym, subst, ◌∙◌, inl, inr, append_assoc, arith, eqb-true}
 use Rattle.std.proofs.Math.Path.{ap}
 use Rattle.std.proofs.Math.Decide.{ℕ_discrete}
@@ -9,7 +9,7 @@ use Rattle.rules.specs.Judge.{same_place}
 use Rattle.rules.specs.Bytes.{GRPGTCNT}
 use Rattle.layout.specs.Sizes.{CODE}
 use Rattle.basic_laws.specs.Truth.{and_left, and_right, and_both, or_cases, or_left, or_right, eqb_bit}
-use Rattle.model_sets.specs.Sets.{size, Numbered, has, follow, next_in}
+use Rattle.model_sets.specs.Sets.{size, Numbered, has, next_in}
 use Rattle.model_sets.specs.Search.{search_pair}
 use Rattle.and_laws.specs.Sets.{Plain}
 use Rattle.and_laws.specs.Numbers.{Guarded, numbered_good}

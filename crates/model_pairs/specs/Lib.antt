@@ -1,4 +1,3 @@
--- The search for a pair at fault in a model's tables, and what it finds in the rules' terms.
+-- The search for a pair at fault in a model's tables.
 pub mod Rows
 pub mod Seeks
-pub mod Finds

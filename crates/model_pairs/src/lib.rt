@@ -1,5 +1,6 @@
 // The first pair of places at fault in a content model.
 #![tactic(auto)]
+
 ghost use Rattle.std.specs.Prelude.{◌≡◌, Bool, true, false, ◌||◌, ◌⊎◌, ℕ, suc, ◌+◌, ◌-◌, ◌*◌, ◌≤◌, ◌<◌, get_or};
 ghost use Rattle.rules.specs.Bytes.{GRPGTCNT};
 ghost use Rattle.layout.specs.Sizes.{MODEL_ROW, POSITIONS};
