@@ -193,11 +193,11 @@ module _ (long : ℕ) (inner : ℕ → List Place → ℕ → Reading Tokens) (s
 
   module _ (p : b ≡ GRPC → ⊥) where
     pub next_unfit : b ≡ PERO → MeetsFurther (length s) (begun lo T n d) k names table (Unfit (record { number = 5; at = i })) (further long inner s k joint t)
-    next_unfit q = unfit_meets _ (begun lo T n d) k names table _ _ _ refl (further_unfit long inner s k joint t i b here B p q)
+    next_unfit q = unfit_meets (length s) (begun lo T n d) k names table _ _ _ refl (further_unfit long inner s k joint t i b here B p q)
 
     module _ (q : b ≡ PERO → ⊥) (y : Bool) (Y : y ≡ (is_connector b && (eqb joint 0 || eqb joint b))) where
       pub next_other : y ≡ false → MeetsFurther (length s) (begun lo T n d) k names table (Unfit (record { number = 4; at = i })) (further long inner s k joint t)
-      next_other r = unfit_meets _ (begun lo T n d) k names table _ _ _ refl (further_other long inner s k joint t i b here B p q (sym Y ∙ r))
+      next_other r = unfit_meets (length s) (begun lo T n d) k names table _ _ _ refl (further_other long inner s k joint t i b here B p q (sym Y ∙ r))
 
       module _ (r : y ≡ true) (j : ℕ) (full : Bool) (J : j ≡ separators_end s (i + 1)) (F : full ≡ (leb GRPCNT k || leb GRPGTCNT m.tokens)) (names' table' : List ℕ) where
         on : further long inner s k joint t ≡ and_then (token long inner s j full (places_of names m.places) m.tokens) (joins k b i t)
@@ -207,8 +207,8 @@ module _ (long : ℕ) (inner : ℕ → List Place → ℕ → Reading Tokens) (s
           pub next_refused : (f g : Fault) → a ≡ Refused f → g ≡ model_fault a → MeetsFurther (length s) (begun lo T n d) k names' table' (Unfit g) (further long inner s k joint t)
           next_refused f g e h =
               let x : Reading Tokens = token long inner s j full (places_of names m.places) m.tokens in
-              let w = refused_is (length s) _ names' table' f x (rw e at M) in
-              rw (h, e) (unfit_meets _ (begun lo T n d) k names' table' _ f _ refl (on ∙ ap (λ (x : Reading Tokens). and_then x (joins k b i t)) w))
+              let w = refused_is (length s) (begun (m.places + 1) table m.code (4 * m.tokens + 3)) names' table' f x (rw e at M) in
+              rw (h, e) (unfit_meets (length s) (begun lo T n d) k names' table' _ f _ refl (on ∙ ap (λ (x : Reading Tokens). and_then x (joins k b i t)) w))
 
           pub next_joined : (u v : Model) (table'' : List ℕ) → a ≡ Read u → v ≡ join_model b i m u → table'' ≡ join_table b lo m u table' → MeetsFurther (length s) (begun lo T n d) k names' table'' (Joined b v) (further long inner s k joint t)
           next_joined u v table'' e f h =
@@ -248,8 +248,8 @@ module _ (long : ℕ) (inner : ℕ → List Place → ℕ → Reading Tokens) (s
     pub so_unfit : (y : Reading Tokens) (f : Fault) → y ≡ members long inner s GRPCNT 1 0 t₀ → r ≡ Unfit f → Meets (length s) (begun lo T n d) names' table' (Refused f) y
     so_unfit y f q e =
         let w = S.read T n d t₀ K₀ in
-        refused_meets _ (begun lo T n d) names' table' _ f.number f.at _ refl
-        (q ∙ w.2 ∙ members_refused long inner s k joint w.0 S.few _ _ (unfit_is _ (begun lo T n d) k names' table' f _ (rw e at (N T n d w.0 w.1))))
+        refused_meets (length s) (begun lo T n d) names' table' _ f.number f.at _ refl
+        (q ∙ w.2 ∙ members_refused long inner s k joint w.0 S.few _ _ (unfit_is (length s) (begun lo T n d) k names' table' f _ (rw e at (N T n d w.0 w.1))))
 
     pub so_joined : (b : ℕ) (u : Model) → r ≡ Joined b u → (k < GRPCNT) × So long inner s lo names₀ table₀ m₀ names' table' u (k + 1) b
     so_joined b u e =

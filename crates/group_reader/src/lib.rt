@@ -1,8 +1,9 @@
 // The recursive reader of model groups: bytes in, the model's places and its table out.
 #![tactic(auto)]
-ghost use Rattle.std.specs.Prelude.{◌≡◌, false, List, ℕ, ◌+◌, ◌*◌, ◌≤◌, ◌<◌, length};
+
+ghost use Rattle.std.specs.Prelude.{◌≡◌, ◌||◌, leb, false, List, ℕ, ◌+◌, ◌*◌, ◌≤◌, ◌<◌, length};
 ghost use Rattle.rules.specs.TypeFile.{Tokens, token, further, group};
-ghost use Rattle.rules.specs.Bytes.{GRPGTCNT, type_limit};
+ghost use Rattle.rules.specs.Bytes.{GRPCNT, GRPGTCNT, type_limit};
 ghost use Rattle.model_names.specs.Places.{places_of};
 ghost use Rattle.connectors.specs.Kept.{begun, Keeps};
 ghost use Rattle.content_tokens.specs.Meets.{Meets};
@@ -32,6 +33,13 @@ fn closed_code(table: &mut [u8; MODEL], code: u16, k: usize, c: u8) -> u16
         return code;
     }
     model_code::put(table, code, model_code::AND_CODE + k as u8)
+}
+
+// Whether no content token may follow k of a group in a model that has so many.
+fn is_full(k: usize, tokens: usize) -> bool
+    ensures { result ≡ (leb GRPCNT k || leb GRPGTCNT tokens) }
+{
+    GRPCNT <= k || GRPGTCNT <= tokens
 }
 
 // A content token that begins at `at`.
@@ -119,7 +127,7 @@ fn next_at(
         return Next::Unfit(Fault { number: 4, at: i });
     }
     let j = text::separators_end(s, i + 1);
-    let full = GRPCNT <= k || GRPGTCNT <= tokens;
+    let full = is_full(k, tokens);
     let r = token_at(long, s, j, levels, full, places, tokens, code, names, table);
     let ModelRead::Read(u) = r else {
         return Next::Unfit(content_tokens::fault_of(r));
