@@ -2,6 +2,7 @@
 //
 // `heads` is that of the crate attribute_lists.
 #![tactic(auto)]
+
 ghost use Rattle.std.specs.Prelude.{◌≡◌, List, ◌+◌, ◌≤◌, ◌<◌, length, replicate};
 ghost use Rattle.rules.specs.TypeFile.{keyword, markup, declaration, type_file};
 ghost use Rattle.rules.specs.TypeFile as rules;
