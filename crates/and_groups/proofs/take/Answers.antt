@@ -8,7 +8,7 @@ pub returns-then-members-lt-MEMBERS : goal.returns-then-members-lt-MEMBERS
 returns-then-members-lt-MEMBERS c = takes_short _ _ _ _ _ _ (omega (arith, c.if-members-lt-MEMBERS.true))
 
 pub returns-then-x-eq0 : goal.returns-then-x-eq0
-returns-then-x-eq0 c = takes_free _ _ _ _ _ _ _ _ _ _ (ready_start _ _ _ _ _ _ c.if-u-eq0.true c.none.ensures) c.holder-h.ensures.0 c.entered-first.ensures c.put.ensures _ c.blocking-x.ensures c.if-x-eq0.true
+returns-then-x-eq0 c = takes_free _ _ _ _ _ _ _ _ _ _ (ready_start _ _ _ _ _ _ (omega arith) c.none.ensures) c.holder-h.ensures.0 c.entered-first.ensures c.put.ensures _ c.blocking-x.ensures c.if-x-eq0.true
 
 pub required_in-requires : goal.required_in-requires
 required_in-requires c =
@@ -21,10 +21,10 @@ required_in-requires c =
     }
 
 pub returns-then-u-eq0 : goal.returns-then-u-eq0
-returns-then-u-eq0 c = takes_held _ _ _ _ _ _ _ _ _ _ (ready_start _ _ _ _ _ _ c.if-u-eq0.true c.none.ensures) c.holder-h.ensures.0 c.entered-first.ensures c.put.ensures _ c.blocking-x.ensures c.if-x-eq0.false _ c.required_in.ensures
+returns-then-u-eq0 c = takes_held _ _ _ _ _ _ _ _ _ _ (ready_start _ _ _ _ _ _ (omega arith) c.none.ensures) c.holder-h.ensures.0 c.entered-first.ensures c.put.ensures _ c.blocking-x.ensures c.if-x-eq0.false _ c.required_in.ensures
 
 pub returns-then-y-eq0 : goal.returns-then-y-eq0
-returns-then-y-eq0 c = takes_free _ _ _ _ _ _ _ _ _ _ (ready_on _ _ _ _ _ _ c.if-u-eq0.false c.begun_at.ensures) c.holder-h.ensures.0 c.entered-now.ensures c.put-2.ensures _ c.blocking-y.ensures c.if-y-eq0.true
+returns-then-y-eq0 c = takes_free _ _ _ _ _ _ _ _ _ _ (ready_on _ _ _ _ _ _ (omega arith) c.begun_at.ensures) c.holder-h.ensures.0 c.entered-now.ensures c.put-2.ensures _ c.blocking-y.ensures c.if-y-eq0.true
 
 pub required_in-requires-2 : goal.required_in-requires-2
 required_in-requires-2 c =
@@ -37,4 +37,4 @@ required_in-requires-2 c =
     }
 
 pub returns : goal.returns
-returns c = takes_held _ _ _ _ _ _ _ _ _ _ (ready_on _ _ _ _ _ _ c.if-u-eq0.false c.begun_at.ensures) c.holder-h.ensures.0 c.entered-now.ensures c.put-2.ensures _ c.blocking-y.ensures c.if-y-eq0.false _ c.required_in-2.ensures
+returns c = takes_held _ _ _ _ _ _ _ _ _ _ (ready_on _ _ _ _ _ _ (omega arith) c.begun_at.ensures) c.holder-h.ensures.0 c.entered-now.ensures c.put-2.ensures _ c.blocking-y.ensures c.if-y-eq0.false _ c.required_in-2.ensures

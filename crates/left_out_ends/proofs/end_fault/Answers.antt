@@ -13,7 +13,7 @@ returns-then-not-complete c =
 pub returns-then-not-omitted : goal.returns-then-not-omitted
 returns-then-not-omitted c =
     let a = c.args in
-    judges_required a.facts.now a.o c.if-not-complete.false c.end_omitted-omitted.ensures c.if-not-omitted.true
+    judges_required a.facts.now a.o (cc) c.end_omitted-omitted.ensures c.if-not-omitted.true
 
 pub returns : goal.returns
 returns c =
