@@ -10,7 +10,7 @@ ghost use Rattle.inputs.specs.Checks.{settings_of, is_clean, failing};
 use layout::{LEAST_NAME_LENGTH, MOST_NAME_LENGTH};
 
 // What the caller chooses: how long a name may be, and by which edition record ends are read.
-#[derive(Drop)]
+#[derive(Clone, Copy)]
 pub struct Settings {
     pub name_length: usize,
     pub edition: usize,
