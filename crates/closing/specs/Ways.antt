@@ -1,7 +1,7 @@
 -- What `end_tag` and `finish` promise, by each way that their code goes.
 use Rattle.std.specs.Prelude.{ℕ, ◌+◌, ◌-◌, ◌≤◌, ◌<◌, ◌≡◌, refl, Bool, true, false, List, [], ◌∷◌, ◌++◌, length}
 use Rattle.std.proofs.Common.{ap, sym, ◌∙◌, append_assoc, arith, length-append}
-use Rattle.rules.specs.Reading.{Reading, refused, got, and_then}
+use Rattle.rules.specs.Reading.{Reading, and_then}
 use Rattle.rules.specs.TypeFile.{Element}
 use Rattle.rules.specs.Events.{Event, end_written}
 use Rattle.rules.specs.Settling.{State, is_open, close_from, end_element, end_from, end_document}

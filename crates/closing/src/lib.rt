@@ -5,6 +5,7 @@
 // Where the table is no type's, or the state stands in none, what is brought is not decided, but that the state's numbers are in range, that the
 // refusal number is below 20, and that so many events were put as are counted.
 #![tactic(auto)]
+
 ghost use Rattle.std.specs.Prelude.{◌+◌, ◌≤◌, ◌<◌};
 ghost use Rattle.rules.specs.Bytes.{element_limit};
 ghost use Rattle.layout.specs.Sizes.{TOKEN_EVENTS};
