@@ -1,0 +1,30 @@
+use native.Mathlib.Omega.{arith}
+use Rattle.rules.specs.Lent.{bytes}
+use Rattle.inputs.specs.Checks.{settings_of}
+use Rattle.type_judge.specs.Deciding.{accepted_fits, judged_accepts, judged_refuses}
+use Rattle.type_judge.proofs.judge_to_bytes.Goals as goal
+
+-- The records fit the table and the buffer.
+pub overflow_mul-n : goal.overflow_mul-n
+overflow_mul-n c =
+    let a = c.args in
+    let d = c.decide-v in
+    omega (arith, accepted_fits bytes (settings_of a.c) a.s.now a.buffer.now d.new.elements d.new.heads d.result d.ensures c.in-Accepted.n c.in-Accepted.is)
+
+pub put_bytes-requires : goal.put_bytes-requires
+put_bytes-requires c =
+    let a = c.args in
+    let d = c.decide-v in
+    omega (arith, accepted_fits bytes (settings_of a.c) a.s.now a.buffer.now d.new.elements d.new.heads d.result d.ensures c.in-Accepted.n c.in-Accepted.is)
+
+pub returns-in-Accepted : goal.returns-in-Accepted
+returns-in-Accepted c =
+    let a = c.args in
+    let d = c.decide-v in
+    judged_accepts bytes (settings_of a.c) a.s.now a.buffer.now d.new.elements d.new.heads d.result d.ensures _ _ c.in-Accepted.is c.put_bytes.ensures
+
+pub returns-in_default : goal.returns-in_default
+returns-in_default c =
+    let a = c.args in
+    let d = c.decide-v in
+    judged_refuses bytes (settings_of a.c) a.s.now a.buffer.now d.new.elements d.new.heads d.result d.ensures _ c.in_default.not-Accepted c.clear_bytes.ensures
