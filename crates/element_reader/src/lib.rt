@@ -1,5 +1,6 @@
 // One element declaration: its name, omitted tag minimization and content.
 #![tactic(auto)]
+
 ghost use Rattle.std.specs.Prelude.{◌≡◌, List, ◌≤◌, length};
 ghost use Rattle.rules.specs.TypeFile.{close, rest, element};
 ghost use Rattle.rules.specs.TypeFile as rules;
@@ -15,7 +16,7 @@ use layout::{MODEL, NAMES, RECORDS};
 use text::{Fault, Reached};
 
 // A whole declaration.
-#[derive(Drop)]
+#[derive(Clone, Copy)]
 pub struct Element {
     pub offset: usize,
     pub size: usize,
