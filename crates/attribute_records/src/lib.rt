@@ -1,5 +1,6 @@
 // The attributes of a type, for a caller: nine numbers for each, or one refusal.
 #![tactic(auto)]
+
 ghost use Rattle.std.specs.Prelude.{◌≡◌, ◌+◌, ◌*◌, ◌-◌, ◌≤◌, ◌<◌, length};
 ghost use Rattle.rules.specs.Bytes.{ATTCNT, element_limit, type_limit};
 ghost use Rattle.rules.specs.Lent.{numbers, bytes, bytes_of};

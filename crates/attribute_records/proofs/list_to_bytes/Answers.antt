@@ -1,0 +1,16 @@
+use Rattle.rules.specs.Lent.{bytes}
+use Rattle.inputs.specs.Checks.{settings_of}
+use Rattle.attribute_records.specs.Decided.{listed_accepts, listed_refuses, zeroed_kept}
+use Rattle.attribute_records.proofs.list_to_bytes.Goals as goal
+
+pub returns-in-Accepted : goal.returns-in-Accepted
+returns-in-Accepted c =
+    let a = c.args in
+    let d = c.decide-v in
+    listed_accepts bytes (settings_of a.c) a.s.now _ _ _ _ d.result d.ensures _ c.in-Accepted.is
+
+pub returns : goal.returns
+returns c =
+    let a = c.args in
+    let d = c.decide-v in
+    listed_refuses bytes (settings_of a.c) a.s.now _ _ _ _ d.result d.ensures _ c.in_default.not-Accepted (zeroed_kept a.buffer.now d.new.bytes d.auto.bytes c.clear_bytes.ensures)
