@@ -3,6 +3,7 @@
 // `index`: number k is the next larger element whose name has the same length and first letter as that of k, or 0.
 // Number `CONTENTS` + b is the smallest element of the bucket b. `elements` are the records of the type's elements.
 #![tactic(auto)]
+
 ghost use Rattle.std.specs.Prelude.{◌≡◌, List, ◌+◌, ◌-◌, ◌*◌, ◌≤◌, ◌<◌, length, get_or, replicate};
 ghost use Rattle.rules.specs.Bytes.{byte_at, fold, same_text, element_limit};
 ghost use Rattle.rules.specs.Settings.{Settings, most_name_length};
