@@ -9,7 +9,7 @@ use Rattle.model_names.specs.Places.{place_in}
 use Rattle.model_names.specs.Shared.{place_at_places_of}
 use Rattle.and_laws.specs.Fold.{clash}
 use Rattle.model_pairs.specs.Rows.{Tells, fault_in}
-use Rattle.model_pairs.specs.Finds.{Holds, tells, answer_none, answer_first}
+use Rattle.model_pairs.proofs.Finds.{Holds, tells, answer_none, answer_first}
 use Rattle.element_content.specs.Kept.{KeepsModel, KeepsContent}
 use Rattle.element_records.specs.declared.Clash.{Clash}
 use Rattle.element_records.specs.Progress.{Pending, PendingWith}

@@ -1,5 +1,6 @@
 // The elements of a type file as they are read: each is recorded in the table of elements, and the first pair at fault is kept.
 #![tactic(auto)]
+
 ghost use Rattle.std.specs.Prelude.{◌≡◌, List, ◌++◌, ◌+◌, ◌*◌, ◌≤◌, ◌<◌, length, take};
 ghost use Rattle.rules.specs.TypeFile as rules;
 ghost use Rattle.rules.specs.Bytes.{GRPGTCNT, element_limit, type_limit};
