@@ -1,0 +1,54 @@
+use native.Mathlib.Omega.{arith}
+use Rattle.table_fill.specs.Elements.{few, flags, name_in, not_refused, rows_due, places_due, element_empty, element_plain, element_among}
+use Rattle.table_fill.proofs.put_element.Goals as goal
+
+pub put_facts-requires : goal.put_facts-requires
+put_facts-requires c = let due = c.requires in
+    (due.from, few _ _ _ _ _ _ _ _ _ _ _ due, flags _ _ _ _ _ _ _ _ _ _ _ due)
+
+pub offset-requires : goal.offset-requires
+offset-requires c = let due = c.requires in
+    (due.from, few _ _ _ _ _ _ _ _ _ _ _ due)
+
+pub element_at-r-requires : goal.element_at-r-requires
+element_at-r-requires c = name_in _ _ _ _ _ _ _ _ _ _ _ c.requires _ c.offset.ensures.0
+
+pub returns-in_default : goal.returns-in_default
+returns-in_default c = absurd (not_refused _ _ _ _ _ _ _ _ _ _ _ c.requires _ _ _ _ c.offset.ensures.0 c.element_at-r.ensures.meets_element _ c.in_default.is)
+
+pub row-requires : goal.row-requires
+row-requires c = (few _ _ _ _ _ _ _ _ _ _ _ c.requires, omega arith)
+
+pub bounds-rows-row : goal.bounds-rows-row
+bounds-rows-row c = omega (arith, few _ _ _ _ _ _ _ _ _ _ _ c.requires)
+
+pub returns-then-d-eq0 : goal.returns-then-d-eq0
+returns-then-d-eq0 c = element_empty _ _ _ _ _ _ _ _ _ _ _ c.requires _ _ _ _ c.offset.ensures.0 c.element_at-r.ensures.meets_element _ c.in-Read.is _ c.put_facts.ensures c.if-d-eq0.true _ c.row.ensures
+
+pub put_places-requires : goal.put_places-requires
+put_places-requires c = places_due _ _ _ _ _ _ _ _ _ _ _ c.requires _ _ _ _ c.offset.ensures.0 c.element_at-r.ensures.meets_element _ c.in-Read.is _ c.put_facts.ensures c.if-d-eq0.false
+
+pub put_rows-requires : goal.put_rows-requires
+put_rows-requires c = (rows_due _ _ _ _ _ _ _ _ _ _ _ c.requires _ _ _ _ c.offset.ensures.0 c.element_at-r.ensures.meets_element _ c.in-Read.is c.if-d-eq0.false, omega arith)
+
+pub returns-then-d-eq0-2 : goal.returns-then-d-eq0-2
+returns-then-d-eq0-2 c = let due = c.requires in
+    element_plain _ _ _ _ _ _ _ _ _ _ _ due _ _ _ _ c.offset.ensures.0 c.element_at-r.ensures.meets_element _ c.in-Read.is _ c.put_facts.ensures c.if-d-eq0.false c.if-d-eq0-2.true _ _ _ c.put_rows.ensures (c.put_places.ensures _ due.indexed)
+
+pub put_rows-requires-2 : goal.put_rows-requires-2
+put_rows-requires-2 c = (rows_due _ _ _ _ _ _ _ _ _ _ _ c.requires _ _ _ _ c.offset.ensures.0 c.element_at-r.ensures.meets_element _ c.in-Read.is c.if-d-eq0.false, omega arith)
+
+pub raise_facts-requires : goal.raise_facts-requires
+raise_facts-requires c = let due = c.requires in
+    (few _ _ _ _ _ _ _ _ _ _ _ due, (c.put_places.ensures _ due.indexed).facts_len)
+
+pub fill-requires : goal.fill-requires
+fill-requires c = omega (arith, few _ _ _ _ _ _ _ _ _ _ _ c.requires)
+
+pub shape_of-members : goal.shape_of-members
+shape_of-members c = c.fill.auto.members
+
+pub returns : goal.returns
+returns c = let due = c.requires in
+    element_among _ _ _ _ _ _ _ _ _ _ _ due _ _ _ _ c.offset.ensures.0 c.element_at-r.ensures.meets_element _ c.in-Read.is _ c.put_facts.ensures c.if-d-eq0.false _ _ _ _ _ c.put_rows-2.ensures (c.put_places.ensures _ due.indexed)
+    c.raise_facts.ensures c.fill.auto.members c.fill.ensures
