@@ -14,7 +14,7 @@ use layout::{MODEL, NAMES, RECORD, RECORDS};
 use text::Fault;
 
 // A pair at fault: where its second place stands and the two places; the second is 0 if there is none.
-#[derive(Drop)]
+#[derive(Clone, Copy)]
 pub struct Clash {
     pub at: u32,
     pub first: u32,

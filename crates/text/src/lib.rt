@@ -6,7 +6,7 @@ ghost use Rattle.rules.specs.Bytes.{byte_at, allowed, separator, letter, name_by
 ghost use Rattle.text.specs.Refusal.{fault_of};
 
 // A refusal by number and position.
-#[derive(Drop)]
+#[derive(Clone, Copy)]
 pub struct Fault {
     pub number: u32,
     pub at: usize,

@@ -3,6 +3,7 @@
 // "1 type, 1 document, 2 type, 2 document; the type file's 3 to 8 ..": a document's 1 comes before the type's 2, and its 2 before what else the type is
 // refused for. So the type's refusal is kept with the stage at which it came, and each document is put in order with it.
 #![tactic(auto)]
+
 ghost use Rattle.std.specs.Prelude.{◌≡◌, List, ℕ, replicate};
 ghost use Rattle.rules.specs.Settings as rules;
 ghost use Rattle.rules.specs.Bytes.{element_limit};
@@ -16,7 +17,7 @@ use text::Fault;
 use type_judge::Verdict;
 
 // Where the type file stands once it is judged.
-#[derive(Drop)]
+#[derive(Clone, Copy)]
 pub enum Stage {
     // Number 24 of the settings, or the type's 1: before anything of a document.
     Unread(Fault),
