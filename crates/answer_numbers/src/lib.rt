@@ -1,5 +1,6 @@
 // The reader's answer as the six numbers that C gets.
 #![tactic(auto)]
+
 ghost use Rattle.std.specs.Prelude.{◌≡◌};
 ghost use Rattle.rules.specs.Calls.{answer_numbers};
 ghost use Rattle.one_document.specs.Answer.{answer_of};
