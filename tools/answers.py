@@ -435,7 +435,7 @@ def convert(path, rec, crate):
             for names, _ in fn.loops: it += f" goal.the-invariant-{names[1]} goal.the-decreases-{names[1]}"
             handed = " tie.handed_clauses" if fn.rec.get("pre") or fn.many or fn.rec.get("asked") or any(fn.rec["clauses"]) else ""
             claims = " tie.the-claims" if any(x and "::" in x for x in fn.callee.values()) else ""
-            for p in sorted(usedplaces): pl.append(f"abbrev {p} : Type 0\n{p} = lts.{p}{claims} reads.Pre reads.Post{handed}{it}")
+            for p in sorted(usedplaces): pl.append(f"abbrev {p} : Type 0\n{p} = lts.{p}{claims} reads.Pre reads.Post{it}{handed}")
         t = "\n".join(([] if inv else head) + uses + [f"use {mod}.Goals as goal"] + extra) + "\n\n" + "\n\n".join(pl + ans) + "\n"
         open(os.path.join(path, "Answers.antt"), "w", encoding="utf-8").write(t)
     os.remove(os.path.join(path, "Proof.antt"))

@@ -20,7 +20,7 @@ use layout::{BEGUN, ELEMENTS, ElementNo, FACTS, PLACES, Place, ROWS, TAGLVL};
 use open_elements::OpenElements;
 
 // What the current element has to say to a start tag or a data byte.
-#[derive(Drop)]
+#[derive(Clone, Copy)]
 pub enum Way {
     // It fits at this place.
     Taken(Place),
