@@ -5,6 +5,7 @@
 // attribute_marks. Where the tables are no type's, what is found is not decided, but that its element is at most 64 and that it ends
 // further on, within the document, unless it is refused.
 #![tactic(auto)]
+
 ghost use Rattle.std.specs.Prelude.{◌≡◌, true, List, ◌+◌, ◌*◌, ◌-◌, ◌≤◌, ◌<◌, length};
 ghost use Rattle.rules.specs.Settings.{settings, most_name_length};
 ghost use Rattle.rules.specs.Bytes.{ATTCNT, GRPGTCNT, TAGLVL, document_limit, element_limit, type_limit};

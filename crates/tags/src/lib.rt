@@ -14,7 +14,7 @@ use tag_attributes::WrittenRead;
 use text::Fault;
 
 // A tag: where its name stands, how long that is, where the tag ends, and how many of the attributes that it gives are kept.
-#[derive(Drop)]
+#[derive(Clone, Copy)]
 pub struct Tag {
     pub name: usize,
     pub size: usize,
