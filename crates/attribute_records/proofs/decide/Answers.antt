@@ -1,3 +1,4 @@
+-- `decide` meets its contract: the judge refuses, or what it accepts is listed.
 use native.Mathlib.Omega.{arith}
 use mathlib.Core.Path.{subst}
 use Rattle.inputs.specs.Checks.{settings_of}

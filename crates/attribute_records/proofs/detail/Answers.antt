@@ -1,3 +1,4 @@
+-- `detail` meets its contract: each way by the test.
 use native.Mathlib.Omega.{arith}
 use Rattle.attribute_records.specs.Numbers.{detail_below, detail_last}
 use Rattle.attribute_records.proofs.detail.Goals as goal

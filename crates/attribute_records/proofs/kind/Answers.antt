@@ -1,3 +1,4 @@
+-- `kind` meets its contract: each way by the test.
 use native.Mathlib.Omega.{arith}
 use Rattle.attribute_records.specs.Numbers.{kind_below, kind_last}
 use Rattle.attribute_records.proofs.kind.Goals as goal

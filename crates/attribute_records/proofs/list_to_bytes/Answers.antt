@@ -1,3 +1,4 @@
+-- `list_to_bytes` meets its contract: what is listed stands in the buffer, and a refusal clears it.
 use Rattle.rules.specs.Lent.{bytes}
 use Rattle.inputs.specs.Checks.{settings_of}
 use Rattle.attribute_records.specs.Decided.{listed_accepts, listed_refuses, zeroed_kept}

@@ -1,3 +1,4 @@
+-- `listed` meets its contract: the table is filled, the records are put, and the room is looked at.
 use native.Mathlib.Omega.{arith}
 use Rattle.attribute_records.specs.Decided.{listed_full, listed_put}
 use Rattle.attribute_records.proofs.listed.Goals as goal

@@ -1,3 +1,4 @@
+-- `note_bytes` puts the numbers of a record as bytes where they fit.
 use native.Mathlib.Omega.{arith}
 use Rattle.attribute_records.specs.ListByList.{part_bytes, bytes_outside}
 use Rattle.attribute_records.proofs.note_bytes.Goals as goal

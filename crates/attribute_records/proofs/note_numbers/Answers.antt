@@ -1,3 +1,4 @@
+-- `note_numbers` puts the numbers of a record where they fit.
 use native.Mathlib.Omega.{arith}
 use Rattle.attribute_records.specs.ListByList.{part_numbers, numbers_outside}
 use Rattle.attribute_records.proofs.note_numbers.Goals as goal

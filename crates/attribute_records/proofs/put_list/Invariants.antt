@@ -1,3 +1,4 @@
+-- `put_list` puts the records of one list. The invariant: the first of them stand in the buffers.
 use Prim.Native.Nat.{◌-◌, ◌≤◌}
 use Rattle.attribute_records.specs.ListByList.{ListSoFar}
 use Rattle.attribute_records.proofs.put_list.Given as goal

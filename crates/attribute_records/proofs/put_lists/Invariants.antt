@@ -1,3 +1,4 @@
+-- `put_lists` puts the records of all lists. The invariant: those of the first elements stand in the buffers.
 use Prim.Native.Nat.{◌-◌, ◌*◌, ◌≤◌}
 use Rattle.rules.specs.Bytes.{ATTCNT}
 use Rattle.attribute_records.specs.ListByList.{ListsSoFar}

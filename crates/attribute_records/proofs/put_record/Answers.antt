@@ -1,3 +1,4 @@
+-- `put_record` puts the nine numbers to each buffer.
 use Rattle.attribute_records.specs.ListByList.{puts_record}
 use Rattle.attribute_records.proofs.put_record.Goals as goal
 use Rattle.attribute_records.proofs.put_record.Tie as tie

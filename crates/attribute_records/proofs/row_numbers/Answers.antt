@@ -1,3 +1,4 @@
+-- `row_numbers` meets its contract, number by number.
 use Rattle.attribute_records.specs.ListByList.{nine_are}
 use Rattle.attribute_records.proofs.row_numbers.Goals as goal
 

@@ -1,3 +1,4 @@
+-- `file_read` meets its contract: between two declarations what was read so far is kept, and the rules go on from there.
 use Prim.Native.Nat.{◌≤◌, ◌-◌}
 use lib.ListN.{length}
 use Rattle.rules.specs.Bytes.{type_limit}

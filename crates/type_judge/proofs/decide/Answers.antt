@@ -1,3 +1,4 @@
+-- `decide` meets its contract: each way by the tests that led there.
 use mathlib.Core.Path.{refl, sym, ◌∙◌}
 use Rattle.rules.specs.Judge.{not_offered, too_long, not_allowed}
 use Rattle.inputs.specs.Checks.{settings_of}

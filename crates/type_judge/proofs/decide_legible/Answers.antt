@@ -1,3 +1,4 @@
+-- `decide_legible` meets its contract: each way by the tests that led there.
 use mathlib.Core.Path.{sym, ◌∙◌}
 use native.Mathlib.Omega.{arith}
 use Rattle.inputs.specs.Checks.{settings_of}

@@ -1,3 +1,4 @@
+-- `judge` meets its contract: an accepted verdict's records are written, any other zeroes the buffer.
 use native.Mathlib.Omega.{arith}
 use Rattle.rules.specs.Lent.{numbers}
 use Rattle.inputs.specs.Checks.{settings_of}

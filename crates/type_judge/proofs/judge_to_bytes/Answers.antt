@@ -1,3 +1,4 @@
+-- `judge_to_bytes` meets its contract: an accepted verdict's records are written, any other zeroes the buffer.
 use native.Mathlib.Omega.{arith}
 use Rattle.rules.specs.Lent.{bytes}
 use Rattle.inputs.specs.Checks.{settings_of}
