@@ -1,5 +1,6 @@
 // One document under a type that is judged and whose tables are filled: its events, the answer, number 19 where they do not fit, and a buffer that a refusal zeroes.
 #![tactic(auto)]
+
 ghost use Rattle.std.specs.Prelude.{◌≡◌, List, [], ℕ, ◌≤◌, length};
 ghost use Rattle.rules.specs.Lent.{Lent};
 ghost use Rattle.rules.specs.Settings.{settings, most_name_length};
@@ -19,7 +20,7 @@ use layout::{EVENT, FACTS, INDEX, NUMBER, PLACES, RECORDS, ROWS};
 use text::Fault;
 
 // The reader's answer.
-#[derive(Drop)]
+#[derive(Clone, Copy)]
 pub enum Answer {
     // It has so many events.
     Accepted(usize),

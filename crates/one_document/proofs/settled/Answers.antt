@@ -1,0 +1,18 @@
+-- `settled` meets its contract: what was answered and fits is in the buffer, and a refusal clears it.
+use mathlib.Core.Path.{sym, ◌∙◌}
+use mathlib.Core.List.{[]}
+use Rattle.rules.specs.Lent.{Lent}
+use Rattle.one_document.specs.Answering.{count_fits, read_accepted, read_refused}
+use Rattle.one_document.proofs.settled.Goals as goal
+
+pub returns-then-refuses : goal.returns-then-refuses
+returns-then-refuses c settings s d before same h =
+    let a = c.args in
+    let g = sym c.refuses.ensures ∙ c.if-refuses.true in
+    (read_refused Lent.bytes settings s d [] [] before a.buffer.now a.a c.fitted-b.result h same c.fitted-b.ensures _ g c.clear_bytes.ensures, count_fits settings s d [] [] before a.buffer.now _ a.a h c.fitted-b.ensures)
+
+pub returns-else-refuses : goal.returns-else-refuses
+returns-else-refuses c settings s d before same h =
+    let a = c.args in
+    let g = sym c.refuses.ensures ∙ c.if-refuses.false in
+    (read_accepted Lent.bytes settings s d [] [] before a.buffer.now a.a c.fitted-b.result h same c.fitted-b.ensures g, count_fits settings s d [] [] before a.buffer.now _ a.a h c.fitted-b.ensures)
