@@ -1,6 +1,7 @@
 // All tables of an accepted type, filled in one call: the lists of its attributes, the index of its elements' names, and the tables of its models with those
 // of "&" groups.
 #![tactic(auto)]
+
 ghost use Rattle.std.specs.Prelude.{◌≡◌, ℕ, length, replicate};
 ghost use Rattle.rules.specs.Settings.{settings};
 ghost use Rattle.layout.specs.Sizes.{INDEX, ROWS, PLACES, FACTS, MEMBERS, LISTS};
