@@ -1,5 +1,6 @@
 // One part of a string of documents, read into its stretch of the buffer under a type that is judged.
 #![tactic(auto)]
+
 ghost use Rattle.std.specs.Prelude.{List, [], ℕ};
 ghost use Rattle.rules.specs.Lent.{Lent};
 ghost use Rattle.rules.specs.Settings.{settings};

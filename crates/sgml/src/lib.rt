@@ -1,5 +1,6 @@
 // The calls for C: numbers and byte slices. The crate sgml_c exports them.
 #![tactic(auto)]
+
 ghost use Rattle.std.specs.Prelude.{◌≡◌};
 ghost use Rattle.rules.specs.Settings.{settings};
 ghost use Rattle.rules.specs.Calls.{answer_numbers, JudgedNumbers, ReadNumbers, ListedNumbers};

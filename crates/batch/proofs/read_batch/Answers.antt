@@ -1,0 +1,25 @@
+-- `read_batch` meets its contract: by the test of the lists, and of the settings where they are unfit.
+use Rattle.std.proofs.Common.{refl, sym, ◌∙◌, arith}
+use Rattle.rules.specs.Batch.{Batched}
+use Rattle.batch.specs.Turns.{fit_few}
+use Rattle.batch.proofs.read_batch.Goals as goal
+
+pub read_all-requires : goal.read_all-requires
+read_all-requires c = c.if-are_fit.ensures
+
+pub returns-then-is_offered : goal.returns-then-is_offered
+returns-then-is_offered c =
+    let few = fit_few _ _ _ c.if-are_fit.ensures in
+    record { batched = Batched.reads c.if-are_fit.ensures (sym c.is_offered.ensures ∙ c.if-is_offered.true) refl c.read_all.ensures; answer_fits = omega (arith, few) }
+
+pub returns-then-are_fit : goal.returns-then-are_fit
+returns-then-are_fit c =
+    record { batched = Batched.none_offered c.if-are_fit.ensures (sym c.is_offered.ensures ∙ c.if-is_offered.false) refl c.read_all.ensures; answer_fits = omega arith }
+
+pub returns-then-is_offered-2 : goal.returns-then-is_offered-2
+returns-then-is_offered-2 c =
+    record { batched = Batched.unfit c.if-are_fit.ensures (sym c.is_offered-2.ensures ∙ c.if-is_offered-2.true) refl refl c.clear_bytes.ensures; answer_fits = omega arith }
+
+pub returns : goal.returns
+returns c =
+    record { batched = Batched.not_offered c.if-are_fit.ensures (sym c.is_offered-2.ensures ∙ c.if-is_offered-2.false) refl refl c.clear_bytes.ensures; answer_fits = omega arith }
