@@ -1,3 +1,4 @@
+-- `fill` meets its contract. The invariant: the tables are filled up to the element `k`.
 use Prim.Native.Nat.{◌+◌, ◌-◌, ◌≤◌}
 use mathlib.Core.Path.{◌≡◌}
 use lib.ListN.{length}

@@ -1,3 +1,4 @@
+-- `name` meets its contract: what the place holds is `#PCDATA`, or a name that is looked up.
 use mathlib.Core.Path.{sym, ◌∙◌}
 use native.Mathlib.Omega.{arith}
 use borrow.Author.Tests.{eq-eqb}

@@ -1,3 +1,4 @@
+-- `put_element` meets its contract: the declaration reads as it did, so the content that it gives is that of the element.
 use native.Mathlib.Omega.{arith}
 use Rattle.table_fill.specs.Elements.{few, flags, name_in, not_refused, rows_due, places_due, element_empty, element_plain, element_among}
 use Rattle.table_fill.proofs.put_element.Goals as goal

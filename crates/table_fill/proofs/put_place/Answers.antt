@@ -1,3 +1,4 @@
+-- `put_place` meets its contract: a place that names nothing is not filed.
 use mathlib.Core.Path.{refl}
 use native.Mathlib.Omega.{arith}
 use Rattle.table_fill.specs.Places.{place_none, place_some}

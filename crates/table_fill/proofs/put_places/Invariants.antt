@@ -1,3 +1,4 @@
+-- `put_places` meets its contract. The invariant: whatever type is indexed, the places below `p` are filed.
 use mathlib.Core.Path.{◌≡◌}
 use Prim.Native.Nat.{◌+◌, ◌-◌, ◌≤◌}
 use mathlib.Core.List.{List}

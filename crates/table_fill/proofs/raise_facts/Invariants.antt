@@ -1,3 +1,4 @@
+-- `raise_facts` meets its contract. The invariant: the first x are raised, whichever element has its facts there.
 use Prim.Native.Nat.{ℕ, ◌*◌, ◌-◌, ◌≤◌}
 use mathlib.Core.Path.{◌≡◌}
 use mathlib.Core.Bool.{true}

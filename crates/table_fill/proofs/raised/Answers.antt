@@ -1,3 +1,4 @@
+-- `raised` meets its contract: no place stays none, and a place is raised.
 use Prim.Native.Nat.{ℕ, zero, suc, ◌+◌}
 use mathlib.Core.Path.{◌≡◌, refl}
 use mathlib.Core.Bool.{true}

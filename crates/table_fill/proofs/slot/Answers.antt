@@ -1,3 +1,4 @@
+-- `slot` meets its contract: the test says whether the place names `#PCDATA`.
 use borrow.Author.Tests.{eq-eqb, ne_eqb}
 use Rattle.table_fill.proofs.slot.Goals as goal
 

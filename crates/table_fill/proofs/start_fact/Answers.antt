@@ -1,3 +1,4 @@
+-- `start_fact` meets its contract: a required attribute keeps the start from being inferred.
 use Rattle.table_fill.specs.Elements.{start_required, start_recorded}
 use Rattle.table_fill.proofs.start_fact.Goals as goal
 
