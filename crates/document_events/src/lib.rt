@@ -3,6 +3,7 @@
 // `elements` and `index` are those of the crate element_index, `rows`, `places`, `facts` and `members` those of type_tables, `classes` is the table
 // of delimiters, `lists` that of list_table. Where the tables are no type's, neither the answer nor what the buffers hold is decided; the loop ends all the same.
 #![tactic(auto)]
+
 ghost use Rattle.std.specs.Prelude.{◌≡◌, List, ◌≤◌, ◌<◌, length};
 ghost use Rattle.rules.specs.Settings.{settings, most_name_length};
 ghost use Rattle.rules.specs.TypeFile.{Element};
