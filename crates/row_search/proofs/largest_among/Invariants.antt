@@ -1,4 +1,3 @@
--- `largest_among` meets its contract. The invariant: the places still to be looked at give the answer. The measure is the place.
 use Prim.Native.Nat.{◌≤◌}
 use Rattle.rules.specs.Bytes.{GRPGTCNT}
 use Rattle.row_search.specs.Rows.{BothSay}
