@@ -1,3 +1,4 @@
+-- `end_tag` meets its contract: each way by what the loop leaves and the tables answer.
 use mathlib.Core.Path.{sym, ◌∙◌}
 use native.Mathlib.Omega.{arith}
 use borrow.Author.Tests.{not-true, not-false}

@@ -1,3 +1,4 @@
+-- `finish` meets its contract: each way by what the loop leaves and the tables answer.
 use borrow.Author.Tests.{not-true, not-false}
 use Rattle.closing.specs.Ways.{end_refused, end_unfinished, end_finished}
 use Rattle.closing.proofs.finish.Goals as goal

@@ -1,3 +1,4 @@
+-- `declaration_runs_on` meets its contract: each way by the tests that led there.
 use Prim.Native.Nat.{◌+◌}
 use mathlib.Core.Path.{refl, sym, ap, ◌∙◌}
 use Rattle.rules.specs.TypeFile.{comment_declaration}

@@ -1,3 +1,4 @@
+-- `markup_runs_on` meets its contract: each way by the tests that led there.
 use Prim.Native.Nat.{◌+◌}
 use mathlib.Core.Path.{refl, sym, ap, ◌∙◌}
 use Rattle.rules.specs.Document.{tag, start_tag_at}

@@ -1,3 +1,4 @@
+-- `plain_eight` meets its contract: four bytes, then four more.
 use Prim.Native.Nat.{◌+◌}
 use mathlib.Core.Path.{◌≡◌, ◌∙◌}
 use native.Mathlib.Omega.{arith}

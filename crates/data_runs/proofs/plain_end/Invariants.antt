@@ -1,3 +1,4 @@
+-- `plain_end` meets its contract. The invariant of both loops: the run ends at the same place from `i` as from the start.
 use Prim.Native.Nat.{◌-◌, ◌≤◌}
 use mathlib.Core.Path.{◌≡◌}
 use lib.ListN.{length}

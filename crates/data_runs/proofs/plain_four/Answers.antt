@@ -1,3 +1,4 @@
+-- `plain_four` meets its contract: each byte that is not special is passed.
 use Prim.Native.Nat.{◌+◌}
 use mathlib.Core.Path.{◌≡◌, refl, sym, ap, ◌∙◌}
 use native.Mathlib.Omega.{arith}

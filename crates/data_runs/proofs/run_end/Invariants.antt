@@ -1,3 +1,4 @@
+-- `run_end` meets its contract. The invariant: the run ends at the same place from `i` as from the start.
 use Prim.Native.Nat.{◌-◌, ◌≤◌}
 use mathlib.Core.Path.{◌≡◌}
 use lib.ListN.{length}

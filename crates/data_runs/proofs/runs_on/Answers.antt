@@ -1,3 +1,4 @@
+-- `runs_on` meets its contract: each way by the tests that led there.
 use mathlib.Core.Path.{sym, ap, ◌∙◌}
 use Rattle.rules.specs.Settings.{least_name_length}
 use Rattle.rules_laws.specs.Runs.{is_run}

@@ -1,3 +1,6 @@
+-- `events_of` meets its contract. The invariant of the loop: reading has come to `at` with these elements open, and the events so far are in the
+-- buffers; the measure is how much of the document is left. That of the inferred starts: what is left to infer comes to the same as all of them; the measure is
+-- how many are left.
 use Prim.Native.Nat.{◌-◌}
 use lib.ListN.{length}
 use Rattle.rules.specs.Settings.{settings}

@@ -1,3 +1,4 @@
+-- `byte_at` meets its contract: each way by the tests that led there.
 use mathlib.Core.Path.{sym, ◌∙◌}
 use Rattle.document_text.specs.Ways.{byte_skipped, byte_blank, byte_data}
 use Rattle.document_text.proofs.byte_at.Goals as goal

@@ -1,3 +1,4 @@
+-- `comment` meets its contract: the answer is the one that the match found.
 use Rattle.document_text.proofs.comment.Goals as goal
 
 pub returns-in-At : goal.returns-in-At

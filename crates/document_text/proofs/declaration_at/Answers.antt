@@ -1,3 +1,4 @@
+-- `declaration_at` meets its contract: each way by the tests that led there.
 use mathlib.Core.Path.{sym, ◌∙◌}
 use Rattle.document_text.specs.Ways.{declaration_none, declaration_comment, declaration_out, declaration_data}
 use Rattle.document_text.proofs.declaration_at.Goals as goal

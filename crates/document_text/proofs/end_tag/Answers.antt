@@ -1,3 +1,4 @@
+-- `end_tag` meets its contract: the answer is the one that the match found.
 use Rattle.document_text.proofs.end_tag.Goals as goal
 
 pub returns-in-Read : goal.returns-in-Read

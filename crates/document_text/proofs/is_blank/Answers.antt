@@ -1,3 +1,4 @@
+-- `is_blank` meets its contract: each way by the tests that led there.
 use borrow.Author.Tests.{eq-eqb, ne_eqb}
 use Rattle.document_text.proofs.is_blank.Goals as goal
 

@@ -1,3 +1,4 @@
+-- `markup_at` meets its contract: each way by the tests that led there.
 use Prim.Native.Nat.{◌+◌}
 use mathlib.Core.Path.{sym, ◌∙◌}
 use native.Mathlib.Omega.{arith}

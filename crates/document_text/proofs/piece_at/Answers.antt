@@ -1,3 +1,4 @@
+-- `piece_at` meets its contract: each way by the tests that led there.
 use mathlib.Core.Path.{sym, ◌∙◌}
 use lib.ListN.{length}
 use Rattle.document_text.specs.Ways.{piece_markup, piece_reference, piece_section, piece_byte, byte_no_start, meets_other}

@@ -1,3 +1,4 @@
+-- `start_tag` meets its contract: the answer is the one that the match found.
 use Rattle.document_text.specs.Ways.{meets_start, meets_refused}
 use Rattle.document_text.proofs.start_tag.Goals as goal
 

@@ -1,3 +1,4 @@
+-- `note_bytes` meets its contract: the five calls store the bytes of the event's numbers.
 use Prim.Native.Nat.{◌*◌}
 use mathlib.Core.Path.{sym}
 use mathlib.Core.List.{◌∷◌, []}

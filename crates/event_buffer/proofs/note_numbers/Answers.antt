@@ -1,3 +1,4 @@
+-- `note_numbers` meets its contract: the five stores are the event's numbers.
 use Prim.Native.Nat.{◌*◌}
 use mathlib.Core.Path.{sym, ◌∙◌}
 use mathlib.Core.List.{◌∷◌, []}

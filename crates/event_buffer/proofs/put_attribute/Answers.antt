@@ -1,3 +1,4 @@
+-- `put_attribute` meets its contract: both buffers get the event's numbers behind those of n events.
 use mathlib.Core.Path.{refl}
 use Rattle.event_buffer.specs.EventByEvent.{puts_noted}
 use Rattle.event_buffer.proofs.put_attribute.Goals as goal

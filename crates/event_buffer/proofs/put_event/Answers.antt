@@ -1,3 +1,4 @@
+-- `put_event` meets its contract: both buffers get the event's numbers behind those of n events, or over those of the last.
 use mathlib.Core.Path.{refl}
 use Rattle.event_buffer.specs.EventByEvent.{puts_noted, over_noted}
 use Rattle.event_buffer.proofs.put_event.Goals as goal

@@ -1,3 +1,4 @@
+-- `ends` meets its contract. The invariant: what is settled from the state come to is what is settled from the first; the measure is how many are open.
 use Rattle.inferring.specs.Inferring.{Turns}
 use Rattle.inferring.proofs.ends.Given as goal
 

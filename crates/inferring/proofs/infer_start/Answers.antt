@@ -1,3 +1,4 @@
+-- `infer_start` meets its contract: the required place is taken, the element opened there, and its start noted.
 use Rattle.open_elements.specs.Methods.{stands_required}
 use Rattle.inferring.proofs.infer_start.Goals as goal
 

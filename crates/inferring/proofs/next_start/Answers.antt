@@ -1,3 +1,4 @@
+-- `next_start` meets its contract: it is what the tables answer.
 use Rattle.open_elements.specs.Methods.{stands_required}
 use Rattle.inferring.proofs.next_start.Goals as goal
 

@@ -1,3 +1,4 @@
+-- `line_text::put_number` puts the number in decimal: the digits that `io::decimal` writes.
 use Rattle.std.proofs.Common.{arith}
 use Rattle.line_text.specs.Words.{puts_number}
 use Rattle.line_text.proofs.put_number.Goals as goal

@@ -1,3 +1,4 @@
+-- `found_at` meets its contract: by the token that stands there.
 use mathlib.Core.Path.{refl, sym, ◌∙◌}
 use native.Mathlib.Omega.{arith}
 use lib.ListN.{length}

@@ -1,3 +1,4 @@
+-- `held` meets its contract: what `check` says, or nothing is to be held.
 use native.Mathlib.Omega.{arith}
 use Rattle.pieces.specs.Pieces.{attributed_none}
 use Rattle.pieces.proofs.held.Goals as goal

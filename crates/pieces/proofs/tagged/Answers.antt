@@ -1,3 +1,4 @@
+-- `tagged` meets its contract: the element that the lookup found.
 use Rattle.pieces.proofs.tagged.Goals as goal
 
 pub returns : goal.returns

@@ -1,3 +1,4 @@
+-- `placed` meets its contract: the token takes the place that was found, and its events are put, or it is refused.
 use native.Mathlib.Omega.{arith}
 use Rattle.placing.specs.Places.{placed_nowhere, placed_full, placed_taken}
 use Rattle.placing.proofs.placed.Goals as goal

@@ -1,3 +1,4 @@
+-- `put_written` meets its contract: no event for a run of which no byte is shown, one for a run of data or an element that opens, two for an EMPTY element.
 use Prim.Native.Nat.{◌<◌}
 use mathlib.Core.Path.{◌≡◌}
 use native.Mathlib.Omega.{arith}

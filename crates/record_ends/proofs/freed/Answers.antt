@@ -1,3 +1,4 @@
+-- `freed` meets its contract: nothing is done unless no end came and a run is held.
 use mathlib.Core.Path.{sym, ◌∙◌}
 use native.Mathlib.Omega.{arith}
 use Rattle.record_ends.specs.Freeing.{frees_free, frees_behind, frees_whole}

@@ -1,3 +1,4 @@
+-- `is_held` meets its contract: by the edition, and by the byte before.
 use mathlib.Core.Path.{sym}
 use Rattle.record_ends.specs.Ignoring.{held_first, held_none, held_byte}
 use Rattle.record_ends.proofs.is_held.Goals as goal

@@ -1,3 +1,4 @@
+-- `is_ignored` meets its contract: each `return` is a case of the rule.
 use mathlib.Core.Path.{sym, ◌∙◌}
 use Rattle.record_ends.specs.Ignoring.{ignored_first, ignored_other, ignored_marked, ignored_fresh, ignored_directly, ignored_held}
 use Rattle.record_ends.proofs.is_ignored.Goals as goal

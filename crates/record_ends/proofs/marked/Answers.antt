@@ -1,3 +1,4 @@
+-- `marked` meets its contract: by the byte.
 use mathlib.Core.Path.{sym}
 use Rattle.record_ends.specs.Ignoring.{mark_start, mark_end, mark_kept}
 use Rattle.record_ends.proofs.marked.Goals as goal

@@ -1,3 +1,4 @@
+-- `put_held` meets its contract: the run goes over the last event where that is the run without its last byte.
 use Prim.Native.Nat.{suc, ◌-◌, ◌≤◌, ◌<◌}
 use mathlib.Core.Path.{◌≡◌}
 use native.Mathlib.Omega.{arith}

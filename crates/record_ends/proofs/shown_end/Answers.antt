@@ -1,3 +1,4 @@
+-- `shown_end` meets its contract: by `is_held`.
 use mathlib.Core.Path.{sym, ◌∙◌}
 use Rattle.record_ends.specs.Ignoring.{held_some, shown_short, shown_whole}
 use Rattle.record_ends.proofs.shown_end.Goals as goal

@@ -1,3 +1,4 @@
+-- `all_apart` meets its contract: after i turns no two of the first i stretches share a number.
 use Prim.Native.Nat.{◌-◌, ◌≤◌}
 use mathlib.Core.Bool.{true}
 use lib.ListN.{length}

@@ -1,3 +1,4 @@
+-- `all_within` meets its contract: after i turns the first i stretches end within.
 use Prim.Native.Nat.{◌-◌, ◌≤◌}
 use mathlib.Core.Bool.{true}
 use lib.ListN.{length}

@@ -1,3 +1,4 @@
+-- `are_apart` meets its contract: one of them has no number, or one ends before the other begins, or they share a number.
 use mathlib.Core.Path.{sym, ◌∙◌}
 use borrow.Author.Tests.{leb-true, leb-false}
 use Rattle.stretches.specs.Tests.{apart_behind, apart_by}

@@ -1,3 +1,4 @@
+-- `are_fit` meets its contract: each way by the test that led there.
 use mathlib.Core.Path.{subst}
 use native.Mathlib.Omega.{arith}
 use lib.ListN.{length}

@@ -1,3 +1,4 @@
+-- `ends_within` meets its contract: what is left behind the start is compared, and no sum is made.
 use Prim.Native.Nat.{◌+◌}
 use mathlib.Core.Path.{sym}
 use native.Mathlib.Omega.{arith}

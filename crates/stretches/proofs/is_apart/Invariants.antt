@@ -1,3 +1,4 @@
+-- `is_apart` meets its contract: after j turns the i-th stretch shares no number with the first j.
 use Prim.Native.Nat.{◌-◌, ◌≤◌}
 use mathlib.Core.Bool.{true}
 use Rattle.stretches.specs.Fit.{ApartFrom}

@@ -1,3 +1,4 @@
+-- `is_name_byte` meets its contract: the table has the class of each byte.
 use native.Mathlib.Omega.{arith}
 use Rattle.tag_attributes.proofs.is_name_byte.Goals as goal
 

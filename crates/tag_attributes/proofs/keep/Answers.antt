@@ -1,3 +1,4 @@
+-- `keep` meets its contract: the four numbers are written behind those before.
 use native.Mathlib.Omega.{arith}
 use Rattle.tag_attributes.specs.Kept.{keeps_more, keeps_all}
 use Rattle.tag_attributes.proofs.keep.Goals as goal

@@ -1,3 +1,4 @@
+-- `kept` meets its contract: number by number.
 use Rattle.tag_attributes.specs.Given.{kept_in}
 use Rattle.tag_attributes.specs.Kept.{written_is}
 use Rattle.tag_attributes.proofs.kept.Goals as goal

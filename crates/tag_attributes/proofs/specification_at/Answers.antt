@@ -1,3 +1,4 @@
+-- `specification_at` meets its contract: each way by the tests that led there. What stands without separators before it stands where they end.
 use mathlib.Core.Path.{◌∙◌}
 use native.Mathlib.Omega.{arith}
 use Rattle.rules.specs.Attributes.{quote}

@@ -1,3 +1,4 @@
+-- `attributes_at` meets its contract. The invariant: what is still to be read, with what was, gives what the whole gives; the first of the latter are kept.
 use Prim.Native.Nat.{◌-◌}
 use mathlib.Core.List.{[]}
 use lib.ListN.{length}

@@ -1,3 +1,4 @@
+-- `start_tag_at` meets its contract: each way by the tests that led there.
 use mathlib.Core.Path.{sym, ◌∙◌}
 use mathlib.Core.List.{[]}
 use native.Mathlib.Omega.{arith}

@@ -1,3 +1,4 @@
+-- `allowed_end` meets its contract. The invariant: the bytes that pass the test end at the same place from `i` as from the start.
 use Prim.Native.Nat.{◌+◌, ◌-◌, ◌≤◌}
 use mathlib.Core.Path.{◌≡◌}
 use lib.ListN.{length, drop}

@@ -1,3 +1,4 @@
+-- `byte` meets its contract: past the end `get_or` gives its default.
 use mathlib.Core.Path.{sym}
 use lib.ListN.{get_or-eq_default}
 use Rattle.text.proofs.byte.Goals as goal

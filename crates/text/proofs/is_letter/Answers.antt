@@ -1,3 +1,4 @@
+-- `is_letter` meets its contract: each way by the tests that led there.
 use mathlib.Core.Bool.{or-false}
 use native.Mathlib.Omega.{arith}
 use borrow.Author.Tests.{le-leb, lt-leb}
