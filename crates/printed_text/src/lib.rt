@@ -1,5 +1,6 @@
 // The text that the small program prints for a type file and a document.
 #![tactic(auto)]
+
 ghost use Rattle.std.specs.Prelude.{◌≡◌, ◌≤◌, length, take};
 ghost use Rattle.file_reader.specs.Loaded.{IsPrefixLen};
 ghost use Rattle.rules.specs.Printed.{program_settings, Prints};
