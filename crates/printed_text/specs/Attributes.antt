@@ -8,7 +8,7 @@ use native.Mathlib.Omega.{arith}
 use Rattle.std.proofs.Math.ListN.{length, drop, get_or}
 use Rattle.std.proofs.Math.Seq.{drop-drop}
 use borrow.Author.Tests.{eq-eqb, ne_eqb, lt-ltb, le-ltb}
-use Rattle.rules.specs.Attributes.{number, Attribute, attribute_at}
+use Rattle.rules.specs.Attributes.{Attribute, attribute_at}
 use Rattle.rules.specs.TypeFile.{Element}
 use Rattle.rules.specs.Elements.{element_at}
 use Rattle.rules.specs.Listing.{value_numbers, default_numbers, attribute_numbers, attribute_width, list_numbers, attribute_count}
