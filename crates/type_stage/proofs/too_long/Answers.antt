@@ -1,12 +1,8 @@
 -- `too_long` meets its contract: what comes before a document's 1 is the type's, or nothing does.
-use mathlib.Core.Path.{refl, subst}
+use mathlib.Core.Path.{refl}
 use Rattle.rules.specs.Batch.{passes_end}
-use Rattle.type_stage.specs.Stages.{Staged}
 use Rattle.type_stage.specs.Order.{staged_offered}
 use Rattle.type_stage.proofs.too_long.Goals as goal
-
-pub returns-in-Unread : goal.returns-in-Unread
-returns-in-Unread c settings s elements heads h = subst (Staged settings s elements heads) c.in-Unread.is h
 
 pub returns : goal.returns
 returns c settings s elements heads h =
