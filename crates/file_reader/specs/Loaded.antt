@@ -5,10 +5,6 @@ use Rattle.file_reader.specs.declared.Given.TheVariants as given
 use Rattle.file_reader.specs.declared.Loaded.{Loaded}
 use Rattle.file_reader.specs.declared.Loaded.TheVariants as loaded
 
--- So many bytes stand at the start of a buffer, and are all that is taken of it.
-abbrev pub IsPrefixLen : ℕ → List ℕ → Type 0
-IsPrefixLen n buffer = (n ≤ length buffer) × (n ≡ length (take n buffer))
-
 -- So many bytes at the start of a part were read, if any could be.
 abbrev pub GivenIn : Given → List ℕ → Type 0
 GivenIn (given.Bytes n) part = (n ≤ length part) × (n ≡ length (take n part))

@@ -1,7 +1,8 @@
 -- Laws of how much was read.
 use Rattle.std.specs.Prelude.{ℕ, ◌≤◌, ◌≡◌, List, ◌⊎◌, length}
 use Rattle.std.proofs.Common.{sym, length-take-le}
-use Rattle.file_reader.specs.Loaded.{IsPrefixLen, GivenIn, LoadedIn}
+use Rattle.io.specs.Counts.{IsPrefixLen}
+use Rattle.file_reader.specs.Loaded.{GivenIn, LoadedIn}
 use Rattle.file_reader.specs.declared.Given.{Given}
 use Rattle.file_reader.specs.declared.Given.TheVariants as given
 use Rattle.file_reader.specs.declared.Loaded.{Loaded}

@@ -1,4 +1,3 @@
 -- What is put into a buffer, and laws that the functions which put words there go by.
 pub mod Adds
-pub mod Digits
 pub mod Words

@@ -6,8 +6,6 @@ ghost use Rattle.std.specs.Prelude.{◌≡◌, [], ◌∷◌, ◌+◌, ◌≤◌
 ghost use Rattle.rules.specs.Printed.{decimal, word, upper};
 ghost use Rattle.line_text.specs.Adds.{Adds};
 
-mod digits;
-
 // The array has as many bytes as its type says; no code is left of a call.
 fn whole(digits: [u8; 20])
     ensures { length digits ≡ 20 }
@@ -41,7 +39,7 @@ pub fn put_number(out: &mut [u8], at: usize, n: u64, b: u8) -> usize
     ensures { Adds out.old at out.new result (word (decimal n) b) × (result ≤ at + 21) }
 {
     let mut digits = [0u8; 20];
-    let k = digits::decimal(n, &mut digits);
+    let k = io::decimal(n, &mut digits);
     whole(digits);
     let end = put_bytes(out, at, &digits[..k]);
     put_byte(out, end, b)

@@ -2,7 +2,7 @@
 #![tactic(auto)]
 
 ghost use Rattle.std.specs.Prelude.{◌≡◌, ◌≤◌, length, take};
-ghost use Rattle.file_reader.specs.Loaded.{IsPrefixLen};
+ghost use Rattle.io.specs.Counts.{IsPrefixLen};
 ghost use Rattle.rules.specs.Printed.{program_settings, Prints};
 ghost use Rattle.layout.specs.Sizes.{ATTRIBUTE_RECORDS, PROGRAM_EVENTS, PROGRAM_TEXT};
 ghost use Rattle.inputs.specs.Checks.{settings_of};

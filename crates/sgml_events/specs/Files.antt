@@ -1,7 +1,7 @@
 -- Which inputs are printed for, and that the files are read so.
 use Rattle.std.specs.Prelude.{ℕ, ◌<◌, ◌≡◌, List, ◌⊎◌, length, take}
 use Rattle.std.proofs.Common.{inl, inr, ⊎_elim, arith}
-use Rattle.file_reader.specs.Loaded.{IsPrefixLen}
+use Rattle.io.specs.Counts.{IsPrefixLen}
 
 -- The input is all of a file, since the last read gave nothing, or longer than its limit.
 abbrev pub Whole : (limit : ℕ) → List ℕ → (last : ℕ) → Type 0

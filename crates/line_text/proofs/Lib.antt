@@ -1,2 +1,0 @@
--- What the proofs of the digits go by.
-pub mod Powers
