@@ -1,5 +1,5 @@
 -- Laws of the rules' words: bytes, names, separators, comments and gaps.
-use Rattle.std.specs.Prelude.{ℕ, zero, suc, ◌+◌, ◌-◌, ◌≤◌, ◌<◌, ◌≡◌, refl, Bool, true, false, not, ◌||◌, cond, List, [], ◌∷◌, length, drop, eqb, ltb}
+use Rattle.std.specs.Prelude.{ℕ, Result, Ok, Err, IsErrAnd, zero, suc, ◌+◌, ◌-◌, ◌≤◌, ◌<◌, ◌≡◌, refl, Bool, true, false, not, ◌||◌, cond, List, [], ◌∷◌, length, drop, eqb, ltb}
 use Rattle.std.proofs.Math.Path.{sym}
 use Rattle.std.proofs.Common.{ap, ◌∙◌, true≢false, arith, add-one, add-zero, zero-add, suc-add, add_assoc, not-suc-le-zero, le_of_suc-le-suc, length-drop, drop_of_length-le, eq-eqb, eqb-true, lt-ltb, le-ltb, ltb-true, ltb-false, ne_eqb}
 use Rattle.std.proofs.Math.Nat.{sub-zero}
@@ -8,10 +8,8 @@ use Rattle.basic_laws.specs.Truth.{and_left, and_right}
 use Rattle.rules.specs.Reading.{Reading, refused, got}
 use Rattle.rules.specs.Bytes.{byte_at, allowed, separator, letter, name_byte, fold, span, name_end, separators_end, same_text, MDC, MINUS, PERO}
 use Rattle.rules.specs.TypeFile.{at_dashes, before_dashes, gap_within, gap, comment_close, comment_declaration, is_word}
-use Rattle.text.specs.Refusal.{refusal_of, reached, fault_of}
+use Rattle.text.specs.Refusal.{refusal_of, reading, reached}
 use Rattle.text.specs.declared.Fault.{Fault}
-use Rattle.text.specs.declared.Reached.{Reached}
-use Rattle.text.specs.declared.Reached.TheVariants.{At, Refused}
 
 -- A byte above 0 stands in the input.
 pub byte_in : (s : List ℕ) (i : ℕ) → 0 < byte_at s i → i < length s
@@ -165,12 +163,27 @@ cut_or true x y = refl
 cut_or false x y = refl
 
 -- An answer by cases and the reading that it stands for.
-module _ {r : Reached} {x : Reading ℕ} (h : reached r ≡ x) where
-  pub reached_got : {i : ℕ} → r ≡ At i → x ≡ got i
+module _ {r : Result ℕ Fault} {x : Reading ℕ} (h : reached r ≡ x) where
+  pub reached_got : {i : ℕ} → r ≡ Ok i → x ≡ got i
   reached_got q = sym h ∙ ap reached q
 
-  pub reached_refused : {f g : Fault} → r ≡ Refused f → g ≡ fault_of r → x ≡ refusal_of g
-  reached_refused q e = sym h ∙ ap reached q ∙ ap refusal_of (sym (e ∙ ap fault_of q))
+  pub reached_refused : {f : Fault} → r ≡ Err f → x ≡ refusal_of f
+  reached_refused q = sym h ∙ ap reached q
+
+module _ {A B : Type 0} (g : A → B) {r : Result A Fault} {x : Reading B} (h : reading g r ≡ x) where
+  pub reading_got : {a : A} → r ≡ Ok a → x ≡ got (g a)
+  reading_got q = sym h ∙ ap (reading g) q
+
+  pub reading_refused : {f : Fault} → r ≡ Err f → x ≡ refusal_of f
+  reading_refused q = sym h ∙ ap (reading g) q
+
+-- A refusal that `?` passes on.
+pub passed_on : {A : Type 0} {f : Fault} (r : Result A Fault) → IsErrAnd r (λ e. e ≡ f) → r ≡ Err f
+passed_on (Ok _) h = elim h [ ]
+passed_on (Err e) h = ap Err h
+
+pub handed_on : {A B : Type 0} (g : A → B) {f : Fault} (r : Result A Fault) → IsErrAnd r (λ e. e ≡ f) → reading g r ≡ refusal_of f
+handed_on g r h = ap (reading g) (passed_on r h)
 
 -- Comments end with `--`.
 

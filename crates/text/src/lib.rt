@@ -3,31 +3,59 @@
 
 ghost use Rattle.std.specs.Prelude.{◌≡◌, ◌≤◌, ◌<◌, length};
 ghost use Rattle.rules.specs.Bytes.{byte_at, allowed, separator, letter, name_byte, fold, span, name_end, separators_end};
-ghost use Rattle.text.specs.Refusal.{fault_of};
+ghost use Rattle.text.specs.Refusal.{fault_at};
 
-// A refusal by number and position.
-#[derive(Clone, Copy)]
+// Why an input is refused.
+#[derive(Clone, Copy, Debug, PartialEq, Eq)]
+pub enum Refusal {
+    TooLong = 1,
+    Byte = 2,
+    NameTooLong = 3,
+    Malformed = 4,
+    LeftOut = 5,
+    Quantity = 6,
+    DeclaredTwice = 7,
+    Elements = 8,
+    Ambiguous = 9,
+    Undeclared = 10,
+    NotOpen = 11,
+    NotAllowedHere = 12,
+    Incomplete = 13,
+    EndMissing = 14,
+    TooDeep = 15,
+    AfterEnd = 16,
+    SectionEnd = 17,
+    NoDocument = 18,
+    NoRoom = 19,
+    Attribute = 20,
+    AttributeMissing = 21,
+    Value = 22,
+    Batch = 23,
+    Settings = 24,
+    Repeated = 25,
+}
+
+impl Refusal {
+    // The refusal, pointing at a position.
+    pub fn at(self, at: usize) -> Fault
+        ensures { result ≡ fault_at self at }
+    {
+        Fault {
+            number: self as u32,
+            at: at,
+        }
+    }
+}
+
+// A refusal, and the position that it points at.
+#[derive(Clone, Copy, Debug, PartialEq, Eq)]
 pub struct Fault {
     pub number: u32,
     pub at: usize,
 }
 
-// Where reading goes on, or the refusal.
-#[derive(Drop)]
-pub enum Reached {
-    At(usize),
-    Refused(Fault),
-}
-
-// The refusal of an answer that is one.
-pub fn fault_of(r: Reached) -> Fault
-    ensures { result ≡ fault_of r }
-{
-    match r {
-        Reached::At(_) => Fault { number: 0, at: 0 },
-        Reached::Refused(f) => f,
-    }
-}
+// What was read, or the refusal of it.
+pub type Reading<T> = Result<T, Fault>;
 
 // The byte at a position, 0 past the end: byte 0 is not allowed, so it fits nowhere.
 pub fn byte(s: &[u8], at: usize) -> u8
