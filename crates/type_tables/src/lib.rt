@@ -34,6 +34,15 @@ use layout::{
     POSITIONS, Place, RAISE, REQUIRED, ROWS, START_OMITTED,
 };
 
+// The tables of a type: what the functions here and those above them read of it.
+#[derive(Clone, Copy)]
+pub struct TypeTables<'a> {
+    pub rows: &'a [u8; ROWS],
+    pub places: &'a [u8; PLACES],
+    pub facts: &'a [u8; FACTS],
+    pub members: &'a [u8],
+}
+
 // Whether the row of the element e after the place u has its content complete there.
 pub fn complete(rows: &[u8; ROWS], e: ElementNo, u: Place) -> bool
     requires { (e.0 ≤ element_limit) × (u.0 ≤ GRPGTCNT) }
