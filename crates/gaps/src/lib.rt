@@ -7,7 +7,7 @@ ghost use Rattle.text.specs.Refusal.{reached};
 ghost use Rattle.text.specs.Words.{gap_on, behind_dash};
 ghost use Rattle.gaps.specs.Unfit.{unfit_at};
 
-use text::{Fault, Reached};
+use text::{Fault, Reading, Refusal};
 
 // Whether `--` stands at a position.
 fn at_dashes(s: &[u8], at: usize) -> bool
@@ -22,18 +22,16 @@ fn to_dashes(s: &[u8], at: usize) -> usize
     requires { at ≤ length s.now }
     ensures { result ≡ at + before_dashes (drop at s.now) }
 {
-    let mut i = at;
-    while i < s.len() {
+    for i in at..s.len() {
         if at_dashes(s, i) {
             return i;
         }
-        i += 1;
     }
-    i
+    s.len()
 }
 
 // How a gap goes on at `at`, where its next separators have ended: comments with separators between, to the next byte of another kind.
-fn gap_on(s: &[u8], at: usize) -> Reached
+fn gap_on(s: &[u8], at: usize) -> Reading<usize>
     requires { at ≤ length s.now }
     ensures { reached result ≡ gap_on (length s.now) s.now at }
 {
@@ -41,22 +39,19 @@ fn gap_on(s: &[u8], at: usize) -> Reached
     while at_dashes(s, i) {
         let e = to_dashes(s, i + 2);
         if s.len() <= e {
-            return Reached::Refused(Fault {
-                number: 4,
-                at: s.len(),
-            });
+            return Err(Refusal::Malformed.at(s.len()));
         }
         let after = e + 2;
         i = text::separators_end(s, after);
     }
     if text::byte(s, i) == b'%' {
-        return Reached::Refused(Fault { number: 5, at: i });
+        return Err(Refusal::LeftOut.at(i));
     }
-    Reached::At(i)
+    Ok(i)
 }
 
 // Separators and comments between parameters, to the next byte of another kind.
-pub fn gap_end(s: &[u8], at: usize) -> Reached
+pub fn gap_end(s: &[u8], at: usize) -> Reading<usize>
     requires { at ≤ length s.now }
     ensures { reached result ≡ gap s.now at }
 {
@@ -76,21 +71,15 @@ fn behind_dash(s: &[u8], i: usize) -> usize
 
 // The end of a comment declaration of which `<!` ends at `at`, where `--` stands: comments with separators between, then `>`. A "-"
 // behind them could only open a further comment, so the byte after it is the unfit one.
-pub fn comment_end(s: &[u8], at: usize) -> Reached
+pub fn comment_end(s: &[u8], at: usize) -> Reading<usize>
     requires { at_dashes s.now at ≡ true }
     ensures { reached result ≡ comment_declaration s.now at }
 {
-    let r = gap_on(s, at);
-    let Reached::At(i) = r else {
-        return r;
-    };
+    let i = gap_on(s, at)?;
     if text::byte(s, i) == b'>' {
-        return Reached::At(i + 1);
+        return Ok(i + 1);
     }
-    Reached::Refused(Fault {
-        number: 4,
-        at: behind_dash(s, i),
-    })
+    Err(Refusal::Malformed.at(behind_dash(s, i)))
 }
 
 // What cannot stand between parameters. A "-" at the input's end could still have opened a comment.
@@ -99,13 +88,10 @@ pub fn unfit_at(s: &[u8], i: usize) -> Fault
     ensures { result ≡ unfit_at s.now i }
 {
     if text::byte(s, i) != b'-' {
-        return Fault { number: 4, at: i };
+        return Refusal::Malformed.at(i);
     }
     if i + 1 < s.len() {
-        return Fault { number: 4, at: i };
+        return Refusal::Malformed.at(i);
     }
-    Fault {
-        number: 4,
-        at: s.len(),
-    }
+    Refusal::Malformed.at(s.len())
 }

@@ -5,36 +5,28 @@ ghost use Rattle.std.specs.Prelude.{◌≡◌, true, ◌<◌, length};
 ghost use Rattle.rules.specs.Attributes.{quote, literal_end};
 ghost use Rattle.text.specs.Refusal.{reached};
 
-use text::{Fault, Reached};
+use text::{Reading, Refusal};
 
 // Whether the byte is one of the two quotes.
 pub fn is_quote(b: u8) -> bool
     ensures { result ≡ quote b }
 {
-    if b == b'"' {
-        return true;
-    }
-    b == b'\''
+    b == b'"' || b == b'\''
 }
 
 // The closing quote of the literal whose opening quote stands at i. A reference in it, or the input's end, is refused.
-pub fn literal_end(s: &[u8], i: usize) -> Reached
+pub fn literal_end(s: &[u8], i: usize) -> Reading<usize>
     requires { i < length s.now }
     ensures { reached result ≡ literal_end s.now i }
 {
     let q = text::byte(s, i);
-    let mut e = i + 1;
-    while e < s.len() {
+    for e in i + 1..s.len() {
         if s[e] == q {
-            return Reached::At(e);
+            return Ok(e);
         }
         if delimiters::is_reference(s, e) {
-            return Reached::Refused(Fault { number: 5, at: e });
+            return Err(Refusal::LeftOut.at(e));
         }
-        e += 1;
     }
-    Reached::Refused(Fault {
-        number: 4,
-        at: s.len(),
-    })
+    Err(Refusal::Malformed.at(s.len()))
 }
