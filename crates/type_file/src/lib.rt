@@ -12,19 +12,9 @@ ghost use Rattle.attribute_lists.specs.Listed.{Headed};
 ghost use Rattle.element_records.specs.Progress.{KeepsProgress, InProgress};
 ghost use Rattle.type_file.specs.File.{MeetsDeclarations, MeetsFile};
 
-use element_records::{Clash, Progress, Step};
+use element_records::{Clash, Progress};
 use layout::{ELEMENTS, MODEL, NAMES, RECORDS};
-use text::{Fault, Reached};
-
-// The refusal with this number at this position.
-fn refusal(number: u32, at: usize) -> Step
-    ensures { result ≡ Step.Refused (record { number = number; at = at }) }
-{
-    Step::Refused(Fault {
-        number: number,
-        at: at,
-    })
-}
+use text::{Reading, Refusal};
 
 // `<!` at i and a letter after it.
 fn keyword_at(
@@ -36,7 +26,7 @@ fn keyword_at(
     heads: &mut [u16; ELEMENTS],
     names: &mut [u32; NAMES],
     table: &mut [u8; MODEL],
-) -> Step
+) -> Reading<Progress>
     requires i_in_bounds { (i + 2 ≤ length s.now) × (length s.now ≤ type_limit) }
     requires in_progress { InProgress s.now elements.old p }
     ensures { (es : List rules.Element) (ls : List AttList) → KeepsProgress s.now elements.old p es → Headed long s.now heads.old ls →
@@ -44,32 +34,23 @@ fn keyword_at(
 {
     let e = text::name_end(s, i + 2);
     if long < e - (i + 2) {
-        return refusal(3, i + 2);
+        return Err(Refusal::NameTooLong.at(i + 2));
     }
     if words::is_word(s, i + 2, e, b"ELEMENT") {
         return element_records::element_at(long, s, e, p, elements, names, table);
     }
     if !words::is_word(s, i + 2, e, b"ATTLIST") {
-        return refusal(5, i);
+        return Err(Refusal::LeftOut.at(i));
     }
-    let r = attribute_lists::list_at(long, s, e, elements, p.count, heads);
-    let Reached::At(j) = r else {
-        return Step::Refused(text::fault_of(r));
-    };
-    onward(p, j)
+    let j = attribute_lists::list_at(long, s, e, elements, p.count, heads)?;
+    Ok(onward(p, j))
 }
 
 // What p counts, read up to `at`.
-fn onward(p: Progress, at: usize) -> Step
-    ensures { result ≡ Step.Read (record { at = at; count = p.count; clash = p.clash; repeated = p.repeated }) }
+fn onward(p: Progress, at: usize) -> Progress
+    ensures { result ≡ record p { at = at } }
 {
-    let c = p.clash;
-    Step::Read(Progress {
-        at: at,
-        count: p.count,
-        clash: c,
-        repeated: p.repeated,
-    })
+    Progress { at: at, ..p }
 }
 
 // `<!` at i.
@@ -82,7 +63,7 @@ fn markup_at(
     heads: &mut [u16; ELEMENTS],
     names: &mut [u32; NAMES],
     table: &mut [u8; MODEL],
-) -> Step
+) -> Reading<Progress>
     requires i_in_bounds { (i + 2 ≤ length s.now) × (length s.now ≤ type_limit) }
     requires in_progress { InProgress s.now elements.old p }
     ensures { (es : List rules.Element) (ls : List AttList) → KeepsProgress s.now elements.old p es → Headed long s.now heads.old ls →
@@ -90,25 +71,22 @@ fn markup_at(
 {
     let b = text::byte(s, i + 2);
     if b == b'>' {
-        return onward(p, i + 3);
+        return Ok(onward(p, i + 3));
     }
     if b == b'-' {
         if text::byte(s, i + 3) != b'-' {
-            return refusal(4, i + 3);
+            return Err(Refusal::Malformed.at(i + 3));
         }
-        let r = gaps::comment_end(s, i + 2);
-        let Reached::At(j) = r else {
-            return Step::Refused(text::fault_of(r));
-        };
-        return onward(p, j);
+        let j = gaps::comment_end(s, i + 2)?;
+        return Ok(onward(p, j));
     }
     if b == b'[' {
-        return refusal(5, i);
+        return Err(Refusal::LeftOut.at(i));
     }
     if text::is_letter(b) {
         return keyword_at(long, s, i, p, elements, heads, names, table);
     }
-    refusal(4, i + 2)
+    Err(Refusal::Malformed.at(i + 2))
 }
 
 // What begins at i, where a declaration may begin.
@@ -121,7 +99,7 @@ fn declaration_at(
     heads: &mut [u16; ELEMENTS],
     names: &mut [u32; NAMES],
     table: &mut [u8; MODEL],
-) -> Step
+) -> Reading<Progress>
     requires i_in_bounds { (i < length s.now) × (length s.now ≤ type_limit) }
     requires in_progress { InProgress s.now elements.old p }
     ensures { (es : List rules.Element) (ls : List AttList) → KeepsProgress s.now elements.old p es → Headed long s.now heads.old ls →
@@ -134,14 +112,14 @@ fn declaration_at(
             return markup_at(long, s, i, p, elements, heads, names, table);
         }
         if c == b'?' {
-            return refusal(5, i);
+            return Err(Refusal::LeftOut.at(i));
         }
-        return refusal(4, i + 1);
+        return Err(Refusal::Malformed.at(i + 1));
     }
     if b == b'%' {
-        return refusal(5, i);
+        return Err(Refusal::LeftOut.at(i));
     }
-    refusal(4, i)
+    Err(Refusal::Malformed.at(i))
 }
 
 // The whole type file, where a name may have at most `long` bytes. What stands in `elements` behind the records of its elements, and in
@@ -151,7 +129,7 @@ pub fn file_read(
     s: &[u8],
     elements: &mut [u32; RECORDS],
     heads: &mut [u16; ELEMENTS],
-) -> Step
+) -> Reading<Progress>
     requires { (length s.now ≤ type_limit) × (heads.old ≡ replicate element_limit 0) }
     ensures { MeetsFile long s.now elements.new heads.new result (type_file long s.now) }
 {
@@ -171,14 +149,10 @@ pub fn file_read(
         let i = text::separators_end(s, p.at);
         if s.len() <= i {
             if p.count == 0 {
-                return refusal(8, s.len());
+                return Err(Refusal::Elements.at(s.len()));
             }
-            return Step::Read(p);
+            return Ok(p);
         }
-        let r = declaration_at(long, s, i, p, elements, heads, &mut names, &mut table);
-        let Step::Read(q) = r else {
-            return r;
-        };
-        p = q;
+        p = declaration_at(long, s, i, p, elements, heads, &mut names, &mut table)?;
     }
 }

@@ -6,21 +6,31 @@ ghost use Rattle.rules.specs.Lent.{numbers, bytes};
 ghost use Rattle.rules.specs.Judge.{Legible, Judged};
 ghost use Rattle.rules.specs.Bytes.{element_limit, type_limit};
 ghost use Rattle.inputs.specs.Checks.{settings_of};
+ghost use Rattle.type_judge.specs.declared.TypeFault.TheVariants.{Malformed};
 ghost use Rattle.type_judge.specs.Decides.{answer_of, Decides};
 
-use element_records::{Clash, Step};
+use element_records::Clash;
 use inputs::Settings;
 use layout::{ELEMENTS, NUMBER, RECORD, RECORDS, TYPE_LIMIT};
-use text::Fault;
+use text::{Fault, Refusal};
 
-// The judge's answer.
-#[derive(Drop)]
-pub enum Verdict {
-    // It has so many records.
-    Accepted(usize),
+// Why a type file is refused: at a position, or for a pair of places of a model that is ambiguous.
+#[derive(Clone, Copy)]
+pub enum TypeFault {
     Malformed(Fault),
     Ambiguous(Clash),
 }
+
+impl From<Fault> for TypeFault {
+    ghost from_gives = { λ f r. r ≡ Malformed f };
+
+    fn from(f: Fault) -> TypeFault {
+        TypeFault::Malformed(f)
+    }
+}
+
+// The judge's answer: how many records there are, or why the type is refused.
+pub type Verdict = Result<usize, TypeFault>;
 
 // The verdict on a type file whose length and bytes were looked at, where the lent buffer has room for so many numbers: if
 // accepted, the elements are recorded in `elements`, and `heads`, which is all 0, gets the heads of their lists; what stands
@@ -35,24 +45,21 @@ pub fn decide_legible(
     requires { (length s.now ≤ type_limit) × (heads.old ≡ replicate element_limit 0) }
     ensures { Legible (settings_of c) s.now → Decides (settings_of c) s.now room elements.new heads.new result }
 {
-    let r = type_file::file_read(c.name_length, s, elements, heads);
-    let Step::Read(p) = r else {
-        return Verdict::Malformed(element_records::fault_of(r));
-    };
+    let p = type_file::file_read(c.name_length, s, elements, heads)?;
     let clash = p.clash;
     let second = clash.second;
     let numbers = RECORD * p.count;
     let at = p.repeated;
     if at != 0 {
-        return Verdict::Malformed(Fault { number: 25, at: at });
+        return Err(TypeFault::Malformed(Refusal::Repeated.at(at)));
     }
     if second != 0 {
-        return Verdict::Ambiguous(clash);
+        return Err(TypeFault::Ambiguous(clash));
     }
     if room < numbers {
-        return Verdict::Malformed(Fault { number: 19, at: 0 });
+        return Err(TypeFault::Malformed(Refusal::NoRoom.at(0)));
     }
-    Verdict::Accepted(p.count)
+    Ok(p.count)
 }
 
 // The verdict on any type file under any settings: number 24 comes first, then 1 and 2. Behind the records, and on refusal,
@@ -68,14 +75,14 @@ pub fn decide(
     ensures { Decides (settings_of c) s.now room elements.new heads.new result }
 {
     if !inputs::is_offered(c) {
-        return Verdict::Malformed(Fault { number: 24, at: 0 });
+        return Err(TypeFault::Malformed(Refusal::Settings.at(0)));
     }
     if TYPE_LIMIT < s.len() {
-        return Verdict::Malformed(Fault { number: 1, at: 0 });
+        return Err(TypeFault::Malformed(Refusal::TooLong.at(0)));
     }
     let a = text::allowed_end(s);
     if a < s.len() {
-        return Verdict::Malformed(Fault { number: 2, at: a });
+        return Err(TypeFault::Malformed(Refusal::Byte.at(a)));
     }
     decide_legible(c, s, room, elements, heads)
 }
@@ -87,7 +94,7 @@ pub fn judge(c: Settings, s: &[u8], buffer: &mut [u32]) -> Verdict
     let mut elements = [0u32; RECORDS];
     let mut heads = [0u16; ELEMENTS];
     let v = decide(c, s, buffer.len(), &mut elements, &mut heads);
-    if let Verdict::Accepted(n) = v {
+    if let Ok(n) = v {
         element_records::whole(elements);
         numbers::put_numbers(buffer, &elements, RECORD * n);
     } else {
@@ -103,7 +110,7 @@ pub fn judge_to_bytes(c: Settings, s: &[u8], buffer: &mut [u8]) -> Verdict
     let mut elements = [0u32; RECORDS];
     let mut heads = [0u16; ELEMENTS];
     let v = decide(c, s, buffer.len() / NUMBER, &mut elements, &mut heads);
-    if let Verdict::Accepted(n) = v {
+    if let Ok(n) = v {
         element_records::whole(elements);
         numbers::put_bytes(buffer, &elements, RECORD * n);
     } else {

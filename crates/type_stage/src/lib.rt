@@ -8,28 +8,26 @@ ghost use Rattle.std.specs.Prelude.{◌≡◌, List, ℕ, replicate};
 ghost use Rattle.rules.specs.Settings as rules;
 ghost use Rattle.rules.specs.Bytes.{element_limit};
 ghost use Rattle.inputs.specs.Checks.{settings_of};
-ghost use Rattle.type_stage.specs.Stages.{Staged, PartRefused, OrderedAs, alone_of, is_unclean};
+ghost use Rattle.type_stage.specs.Stages.{Staged, PartRefused, OrderedAs, refused_by, is_unclean};
 
-use element_records::Clash;
 use inputs::Settings;
 use layout::{DOCUMENT_LIMIT, ELEMENTS, RECORDS, TYPE_LIMIT};
-use text::Fault;
-use type_judge::Verdict;
+use text::{Fault, Refusal};
+use type_judge::TypeFault;
 
-// Where the type file stands once it is judged.
+// Why a type is refused, by the stage at which that comes.
 #[derive(Clone, Copy)]
-pub enum Stage {
+pub enum Stopped {
     // Number 24 of the settings, or the type's 1: before anything of a document.
     Unread(Fault),
     // The type's 2: behind a document's 1.
     Unclean(Fault),
-    // The type's 3 to 8, and 25: behind a document's 2.
-    Malformed(Fault),
-    // The type's 9, likewise.
-    Ambiguous(Clash),
-    // It is accepted with so many elements.
-    Accepted(usize),
+    // The type's 3 to 9, and 25: behind a document's 2.
+    Judged(TypeFault),
 }
+
+// Where the type file stands once it is judged: it is accepted with so many elements, or stopped.
+pub type Stage = Result<usize, Stopped>;
 
 // Judges the type file s under the settings c: accepted with so many elements in `elements`, the heads of their lists in `heads`, which is all 0 before,
 // or refused. On refusal what both hold is not decided.
@@ -43,53 +41,46 @@ pub fn judged(
     ensures { Staged (settings_of c) s.now elements.new heads.new result }
 {
     if !inputs::is_offered(c) {
-        return Stage::Unread(Fault { number: 24, at: 0 });
+        return Err(Stopped::Unread(Refusal::Settings.at(0)));
     }
     if TYPE_LIMIT < s.len() {
-        return Stage::Unread(Fault { number: 1, at: 0 });
+        return Err(Stopped::Unread(Refusal::TooLong.at(0)));
     }
     let a = text::allowed_end(s);
     if a < s.len() {
-        return Stage::Unclean(Fault { number: 2, at: a });
+        return Err(Stopped::Unclean(Refusal::Byte.at(a)));
     }
-    let v = type_judge::decide_legible(c, s, RECORDS, elements, heads);
-    match v {
-        Verdict::Accepted(n) => Stage::Accepted(n),
-        Verdict::Malformed(f) => Stage::Malformed(f),
-        Verdict::Ambiguous(x) => Stage::Ambiguous(x),
-    }
+    type_judge::decide_legible(c, s, RECORDS, elements, heads).map_err(Stopped::Judged)
 }
 
-// A document and the type in their order: which of the two is refused, or that the document is to be read under so many elements.
-#[derive(Drop)]
-pub enum Ordered {
-    Read(usize),
-    InType(Fault),
-    Ambiguous(Clash),
+// Which of a type and a document is refused.
+#[derive(Clone, Copy)]
+pub enum Refused {
+    InType(TypeFault),
     InDocument(Fault),
 }
 
-// A document that is too long: its 1 comes behind number 24 and the type's 1 alone. Of a stage that is no type file's nothing is decided.
-pub fn too_long(g: Stage) -> Ordered
-    ensures { (c : rules.Settings) (s elements heads : List ℕ) → Staged c s elements heads g → PartRefused c s result }
-{
-    if let Stage::Unread(f) = g {
-        return Ordered::InType(f);
+// The type's refusal where nothing of a document comes before it.
+impl From<Stopped> for Refused {
+    ghost from_gives = { λ x r. r ≡ refused_by x };
+
+    fn from(x: Stopped) -> Refused {
+        match x {
+            Stopped::Unread(f) => Refused::InType(TypeFault::Malformed(f)),
+            Stopped::Unclean(f) => Refused::InType(TypeFault::Malformed(f)),
+            Stopped::Judged(t) => Refused::InType(t),
+        }
     }
-    Ordered::InDocument(Fault { number: 1, at: 0 })
 }
 
-// The type's refusal where nothing of a document comes before it.
-fn type_alone(g: Stage) -> Ordered
-    ensures { result ≡ alone_of g }
+// A document that is too long: its 1 comes behind number 24 and the type's 1 alone. Of a stage that is no type file's nothing is decided.
+pub fn too_long(g: Stage) -> Refused
+    ensures { (c : rules.Settings) (s elements heads : List ℕ) → Staged c s elements heads g → PartRefused c s result }
 {
-    match g {
-        Stage::Unread(f) => Ordered::InType(f),
-        Stage::Unclean(f) => Ordered::InType(f),
-        Stage::Malformed(f) => Ordered::InType(f),
-        Stage::Ambiguous(x) => Ordered::Ambiguous(x),
-        Stage::Accepted(n) => Ordered::Read(n),
+    if let Err(Stopped::Unread(f)) = g {
+        return Refused::InType(TypeFault::Malformed(f));
     }
+    Refused::InDocument(Refusal::TooLong.at(0))
 }
 
 // Whether the type's bytes are what it is refused for, or what comes before them.
@@ -97,27 +88,23 @@ fn is_unclean(g: Stage) -> bool
     ensures { result ≡ is_unclean g }
 {
     match g {
-        Stage::Unread(_) => true,
-        Stage::Unclean(_) => true,
-        Stage::Malformed(_) => false,
-        Stage::Ambiguous(_) => false,
-        Stage::Accepted(_) => false,
+        Err(Stopped::Unread(_)) => true,
+        Err(Stopped::Unclean(_)) => true,
+        Err(Stopped::Judged(_)) => false,
+        Ok(_) => false,
     }
 }
 
-// The document d in its order with what was judged of the type. Of a stage that is no type file's nothing is decided.
-pub fn in_order(g: Stage, d: &[u8]) -> Ordered
+// The document d in its order with what was judged of the type: it is to be read under so many elements, or one of the two is refused. Of a stage that is no
+// type file's nothing is decided.
+pub fn in_order(g: Stage, d: &[u8]) -> Result<usize, Refused>
     ensures { (c : rules.Settings) (s elements heads : List ℕ) → Staged c s elements heads g → OrderedAs c s d.now g result }
 {
     if DOCUMENT_LIMIT < d.len() {
-        return too_long(g);
+        return Err(too_long(g));
     }
-    if is_unclean(g) {
-        return type_alone(g);
+    if !is_unclean(g) && !inputs::all_allowed(d) {
+        return Err(Refused::InDocument(Refusal::Byte.at(text::allowed_end(d))));
     }
-    if !inputs::all_allowed(d) {
-        let b = text::allowed_end(d);
-        return Ordered::InDocument(Fault { number: 2, at: b });
-    }
-    type_alone(g)
+    Ok(g?)
 }
