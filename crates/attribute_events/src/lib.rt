@@ -8,6 +8,7 @@ ghost use Rattle.std.specs.Prelude.{◌+◌, ◌≤◌, ◌<◌};
 ghost use Rattle.rules.specs.Bytes.{ATTCNT, element_limit};
 ghost use Rattle.attribute_events.specs.PutBefore.{PutsOne, PutsWritten, PutsDefaults};
 
+use event_buffer::Kind;
 use layout::{AttributeNo, ElementNo, MARKS};
 
 // The event of the attribute k of the element e, from 0, of which the marks say how it is written: none where it is not and is required or implied.
@@ -26,13 +27,15 @@ fn put_one(
 {
     let a = AttributeNo(k + 1);
     if at != 0 {
-        return event_buffer::put_attribute(numbers, bytes, n, 7, a, at, size);
+        let kind = Kind::Attribute as u32;
+        return event_buffer::put_attribute(numbers, bytes, n, kind, a, at, size);
     }
     let r = list_table::attribute(lists, e, k);
     if r.default < 2 {
         return n;
     }
-    event_buffer::put_attribute(numbers, bytes, n, 8, a, r.default, r.width)
+    let kind = Kind::DefaultedAttribute as u32;
+    event_buffer::put_attribute(numbers, bytes, n, kind, a, r.default, r.width)
 }
 
 // Puts the attribute events before the start of the element e, of which a tag gives what the marks say.
@@ -49,12 +52,10 @@ fn put_all(
 {
     let count = list_table::count(lists, e);
     let mut m = n;
-    let mut k = 0;
-    while k < count {
-        let at = numbers::short(marks[2 * k]);
-        let size = numbers::short(marks[2 * k + 1]);
+    for k in 0..count {
+        let at = usize::from(marks[2 * k]);
+        let size = usize::from(marks[2 * k + 1]);
         m = put_one(lists, e, k, at, size, m, numbers, bytes);
-        k += 1;
     }
     m
 }

@@ -1,5 +1,5 @@
 -- Laws of the rules' pieces: each way that reading goes.
-use Rattle.std.specs.Prelude.{ℕ, ◌+◌, ◌≡◌, refl, Bool, true, false, ◌&&◌, ◌||◌, List, eqb}
+use Rattle.std.specs.Prelude.{ℕ, Result, Ok, Err, ◌+◌, ◌≡◌, refl, Bool, true, false, ◌&&◌, ◌||◌, List, eqb}
 use Rattle.std.proofs.Common.{sym, ap, subst, ◌∙◌, true≢false}
 use borrow.Author.Tests.{eq-eqb, ne_eqb}
 use Rattle.rules.specs.Bytes.{byte_at, letter, AND, DSO, EXCLAMATION, MDC, OPT, RE, RS, SOLIDUS, SPACE, STAGO, TAB}
@@ -7,14 +7,11 @@ use Rattle.rules.specs.Reading.{Reading, refused, got}
 use Rattle.rules.specs.Attributes.{is_reference}
 use Rattle.rules.specs.TypeFile.{at_dashes, comment_declaration}
 use Rattle.rules.specs.Document.{Written, Tag, Piece, start_tag, end_tag, skipped, blank, data_byte, tag, start_tag_at, malformed, declaration_piece, markup_piece, is_section_end, byte_piece, piece}
-use Rattle.text.specs.Refusal.{refusal_of}
 use Rattle.text.specs.declared.Fault.{Fault}
 use Rattle.tags.specs.Tags.{tag_with, tag_in}
-use Rattle.tags.specs.Given.{ReadAs, MeetsTag}
+use Rattle.tags.specs.Given.{ReadAs}
 use Rattle.tags.specs.declared.Tag as here
-use Rattle.tags.specs.declared.TagRead.{TagRead}
-use Rattle.tags.specs.declared.TagRead.TheVariants as tag_read
-use Rattle.document_text.specs.PieceOf.{piece_of, MeetsPiece, as_start_tag, as_end_tag, as_skipped}
+use Rattle.document_text.specs.PieceOf.{piece_in, piece_of, Stands, MeetsPiece, as_start_tag, as_end_tag, as_skipped}
 use Rattle.document_text.specs.declared.Piece as code
 use Rattle.document_text.specs.declared.Piece.TheVariants as token
 
@@ -96,16 +93,6 @@ module _ (long : ℕ) (s : List ℕ) (i : ℕ) where
       unfolding piece
       piece_byte e = rw (piece, ne_eqb _ _ h, r, e)
 
--- A tag that was read as a start tag, and one that was refused.
-module _ (r : TagRead) (end : ℕ) (g : List ℕ) (x : Reading Tag) (m : MeetsTag end g r x) where
-  pub meets_start : {t : here.Tag} → r ≡ tag_read.Read t → MeetsPiece end g (token.StartTag t) (as_start_tag x)
-  meets_start q =
-      let n = subst (λ (y : TagRead). MeetsTag end g y x) q m in
-      (n.0, ap as_start_tag n.1, n.2)
-
-  pub meets_refused : {f : Fault} → r ≡ tag_read.Refused f → MeetsPiece end g (token.Refused f) (as_start_tag x)
-  meets_refused q = ap as_start_tag (subst (λ (y : TagRead). MeetsTag end g y x) q m)
-
 -- A start tag was read.
 abbrev is_start : Reading Piece → Bool
 is_start (refused n k) = false
@@ -145,18 +132,21 @@ byte_no_start s i =
     either_no_start (eqb b RS) (record { no = refl }) (either_no_start (eqb b TAB || (eqb b RE || eqb b SPACE)) (record { no = refl }) (record { no = refl }))
 
 -- A token that stands for what is no start tag: nothing is kept of attributes. It is what the rules read, x.
-pub meets_other : (end : ℕ) (g : List ℕ) (r : code.Piece) {x y : Reading Piece} → piece_of r ≡ y → NoStart y → y ≡ x → MeetsPiece end g r x
-meets_other end g (token.StartTag t) e n q = absurd (true≢false (ap is_start e ∙ n.no))
-meets_other end g (token.EndTag t) e n q = sym (e ∙ q)
-meets_other end g (token.Skipped i) e n q = sym (e ∙ q)
-meets_other end g token.Blank e n q = sym (e ∙ q)
-meets_other end g token.Data e n q = sym (e ∙ q)
-meets_other end g (token.Refused f) e n q = sym (e ∙ q)
+pub meets_other : (end : ℕ) (g : List ℕ) (r : Result code.Piece Fault) {x y : Reading Piece} → piece_of r ≡ y → NoStart y → y ≡ x → MeetsPiece end g r x
+meets_other end g (Ok p) {x} {y} e n q = by_kind p e
+  where
+    by_kind : (p : code.Piece) → got (piece_in p) ≡ y → Stands end g p x
+    by_kind (token.StartTag t) e = absurd (true≢false (ap is_start e ∙ n.no))
+    by_kind (token.EndTag t) e = sym (e ∙ q)
+    by_kind (token.Skipped i) e = sym (e ∙ q)
+    by_kind token.Blank e = sym (e ∙ q)
+    by_kind token.Data e = sym (e ∙ q)
+meets_other end g (Err f) e n q = sym (e ∙ q)
 
 -- A token by cases: what the rules read, where the code's answer is known.
-module _ (end : ℕ) (g : List ℕ) (r : code.Piece) (x : Reading Piece) (m : MeetsPiece end g r x) where
-  known : {t : code.Piece} → r ≡ t → MeetsPiece end g t x
-  known q = subst (λ (y : code.Piece). MeetsPiece end g y x) q m
+module _ (end : ℕ) (g : List ℕ) (r : code.Piece) (x : Reading Piece) (m : Stands end g r x) where
+  known : {t : code.Piece} → r ≡ t → Stands end g t x
+  known q = subst (λ (y : code.Piece). Stands end g y x) q m
 
   pub token_start : {t : here.Tag} → r ≡ token.StartTag t → (ws : List Written) × (x ≡ got (start_tag (tag_with ws t))) × ReadAs end g t.given ws
   token_start q = known q
@@ -172,6 +162,3 @@ module _ (end : ℕ) (g : List ℕ) (r : code.Piece) (x : Reading Piece) (m : Me
 
   pub token_data : r ≡ token.Data → x ≡ got data_byte
   token_data q = known q
-
-  pub token_refused : {f : Fault} → r ≡ token.Refused f → x ≡ refusal_of f
-  token_refused q = known q

@@ -9,41 +9,38 @@ ghost use Rattle.event_buffer.specs.Buffers.{noted, Puts, PutsOver};
 
 use layout::{AttributeNo, EVENT, ElementNo, NUMBER, Place};
 
+// What an event says.
+#[derive(Clone, Copy, Debug, PartialEq, Eq)]
+pub enum Kind {
+    Start = 1,
+    InferredStart = 2,
+    End = 3,
+    InferredEnd = 4,
+    Data = 5,
+    EmptyEnd = 6,
+    Attribute = 7,
+    DefaultedAttribute = 8,
+}
+
 // The numbers of an event, after n events, if they fit.
-fn note_numbers(
-    buffer: &mut [u32],
-    n: usize,
-    kind: u32,
-    element: u32,
-    at: u32,
-    size: u32,
-    place: u32,
-)
+fn note_numbers(buffer: &mut [u32], n: usize, event: &[u32; EVENT])
     requires { n < 4294967296 }
-    ensures { buffer.new ≡ written buffer.old (event_width * n) (kind ∷ element ∷ at ∷ size ∷ place ∷ []) }
+    ensures { buffer.new ≡ written buffer.old (event_width * n) event.now }
 {
     let i = EVENT * n;
     if i + EVENT <= buffer.len() {
-        buffer[i] = kind;
-        buffer[i + 1] = element;
-        buffer[i + 2] = at;
-        buffer[i + 3] = size;
-        buffer[i + 4] = place;
+        numbers::put_numbers(&mut buffer[i..], event, EVENT);
     }
 }
 
 // The numbers of an event as four bytes each, low byte first, after n events, if they fit.
-fn note_bytes(buffer: &mut [u8], n: usize, kind: u32, element: u32, at: u32, size: u32, place: u32)
+fn note_bytes(buffer: &mut [u8], n: usize, event: &[u32; EVENT])
     requires { n < 4294967296 }
-    ensures { buffer.new ≡ written buffer.old (4 * event_width * n) (bytes_of (kind ∷ element ∷ at ∷ size ∷ place ∷ [])) }
+    ensures { buffer.new ≡ written buffer.old (4 * event_width * n) (bytes_of event.now) }
 {
     let i = NUMBER * EVENT * n;
     if i + NUMBER * EVENT <= buffer.len() {
-        numbers::put_number(buffer, i, kind);
-        numbers::put_number(buffer, i + 4, element);
-        numbers::put_number(buffer, i + 8, at);
-        numbers::put_number(buffer, i + 12, size);
-        numbers::put_number(buffer, i + 16, place);
+        numbers::put_bytes(&mut buffer[i..], event, EVENT);
     }
 }
 
@@ -63,12 +60,9 @@ pub fn put_event(
     ensures { (result ≡ n + 1) × Puts numbers.old bytes.old n (noted kind element.0 at size place.0 ∷ []) numbers.new bytes.new ×
         PutsOver numbers.old bytes.old n (noted kind element.0 at size place.0) numbers.new bytes.new }
 {
-    let e = element.0 as u32;
-    let i = at as u32;
-    let k = size as u32;
-    let p = place.0 as u32;
-    note_numbers(numbers, n, kind, e, i, k, p);
-    note_bytes(bytes, n, kind, e, i, k, p);
+    let event = [kind, element.0 as u32, at as u32, size as u32, place.0 as u32];
+    note_numbers(numbers, n, &event);
+    note_bytes(bytes, n, &event);
     n + 1
 }
 
@@ -85,10 +79,6 @@ pub fn put_attribute(
     requires { (n < 4294967296) × (attribute.0 < 4294967296) × (at < 4294967296) × (size < 4294967296) }
     ensures { (result ≡ n + 1) × Puts numbers.old bytes.old n (noted kind attribute.0 at size 0 ∷ []) numbers.new bytes.new }
 {
-    let a = attribute.0 as u32;
-    let i = at as u32;
-    let k = size as u32;
-    note_numbers(numbers, n, kind, a, i, k, 0);
-    note_bytes(bytes, n, kind, a, i, k, 0);
-    n + 1
+    // The number of an attribute stands where that of an element does.
+    put_event(numbers, bytes, n, kind, ElementNo(attribute.0), at, size, Place(0))
 }

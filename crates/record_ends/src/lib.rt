@@ -1,7 +1,6 @@
 // Record ends: which bytes 13 are data in edition 2.
 //
-// `since` is where the last tag or data ended, `mark` where the last byte 10 or 13 ended that was ignored; 0 where there is none yet. Where the byte before `since` is
-// a byte 13, it is the last of a run of data: it may turn out to be the last in its element, and is not in the events yet.
+// Where the byte before `since` is a byte 13, it is the last of a run of data: it may turn out to be the last in its element, and is not in the events yet.
 #![tactic(auto)]
 
 ghost use Rattle.std.specs.Prelude.{◌≡◌, ℕ, ◌+◌, ◌-◌, ◌≤◌, ◌<◌, length};
@@ -10,6 +9,7 @@ ghost use Rattle.rules.specs.Settling as rules;
 ghost use Rattle.rules.specs.Records.{is_ignored, mark_behind};
 ghost use Rattle.record_ends.specs.Held.{line_of, is_held, shown_end, Since, PutsWhole, Frees};
 
+use event_buffer::Kind;
 use layout::{ElementNo, Place};
 
 // The record end, byte 13.
@@ -18,42 +18,53 @@ const RE: u8 = b'\r';
 // The record start, byte 10.
 const RS: u8 = b'\n';
 
-// Whether the byte at `at`, which would be data, is a byte 13 that is ignored by what came before it. u is the last place taken in the current element.
-// Where a place was taken though neither a tag nor data came, what it answers is not decided: no reading comes there.
-pub fn is_ignored(edition: usize, d: &[u8], at: usize, since: usize, mark: usize, u: Place) -> bool
-    requires { (at < length d.now) × (since ≤ at) }
-    ensures { (long : ℕ) (o : rules.Open) → Since since u.0 o → result ≡ is_ignored (settings long edition) d.now at (line_of since mark) o }
-{
-    if edition != 2 {
-        return false;
-    }
-    if d[at] != RE {
-        return false;
-    }
-    if since < mark {
-        return mark != at;
-    }
-    if u.0 == 0 {
-        return true;
-    }
-    if since == at {
-        return false;
-    }
-    is_held(edition, d, since)
+// Where the last tag or data ended, and where the last byte 10 or 13 ended that was ignored; 0 where there is none yet.
+#[derive(Clone, Copy)]
+pub struct Line {
+    pub since: usize,
+    pub mark: usize,
 }
 
-// Where the last byte 10 or 13 ended that was ignored, behind what is ignored at `at`.
-pub fn marked(d: &[u8], at: usize, mark: usize) -> usize
-    requires { at < length d.now }
-    ensures { result ≡ mark_behind d.now at mark }
-{
-    if d[at] == RS {
-        return at + 1;
+impl Line {
+    // Whether the byte at `at`, which would be data, is a byte 13 that is ignored by what came before it. u is the last place taken in the current element.
+    // Where a place was taken though neither a tag nor data came, what it answers is not decided: no reading comes there.
+    pub fn is_ignored(self, edition: usize, d: &[u8], at: usize, u: Place) -> bool
+        requires { (at < length d.now) × (self.since ≤ at) }
+        ensures { (long : ℕ) (o : rules.Open) → Since self.since u.0 o →
+            result ≡ is_ignored (settings long edition) d.now at (line_of self.since self.mark) o }
+    {
+        if edition != 2 || d[at] != RE {
+            return false;
+        }
+        if self.since < self.mark {
+            return self.mark != at;
+        }
+        u.0 == 0 || self.since != at && is_held(edition, d, self.since)
     }
-    if d[at] == RE {
-        return at + 1;
+
+    // The line behind what is ignored at `at`.
+    pub fn marked(self, d: &[u8], at: usize) -> Line
+        requires { at < length d.now }
+        ensures { (result.since ≡ self.since) × (result.mark ≡ mark_behind d.now at self.mark) }
+    {
+        if d[at] == RS || d[at] == RE {
+            return Line {
+                since: self.since,
+                mark: at + 1,
+            };
+        }
+        self
     }
-    mark
+
+    // The line behind a tag or data that ends at `after`.
+    pub fn taken(self, after: usize) -> Line
+        ensures { (result.since ≡ after) × (result.mark ≡ self.mark) }
+    {
+        Line {
+            since: after,
+            mark: self.mark,
+        }
+    }
 }
 
 // Whether the last tag or data ended with a byte 13.
@@ -61,13 +72,7 @@ pub fn is_held(edition: usize, d: &[u8], since: usize) -> bool
     requires { since ≤ length d.now }
     ensures { result ≡ is_held edition d.now since }
 {
-    if edition != 2 {
-        return false;
-    }
-    if since == 0 {
-        return false;
-    }
-    d[since - 1] == RE
+    edition == 2 && since != 0 && d[since - 1] == RE
 }
 
 // Where the run of data or the tag up to `after` ends as it is shown: a byte 13 that may turn out to be the last in its element is not shown yet.
@@ -92,12 +97,10 @@ pub fn put_held(numbers: &mut [u32], bytes: &mut [u8], n: usize, from: usize, si
     let data = ElementNo(0);
     let size = since - from;
     let mut k = n;
-    if 1 < size {
-        if 0 < n {
-            k -= 1;
-        }
+    if 1 < size && 0 < n {
+        k -= 1;
     }
-    event_buffer::put_event(numbers, bytes, k, 5, data, from, size, none)
+    event_buffer::put_event(numbers, bytes, k, Kind::Data as u32, data, from, size, none)
 }
 
 // How many events there are behind the m that stand behind the ends which a token infers, n being those before these. Where no end came first, more of the element
@@ -115,10 +118,7 @@ pub fn freed(
     requires { (since ≤ length d.now) × (from ≤ since) × (since < 4294967296) × (n < 4294967296) }
     ensures { Frees (is_held edition d.now since) from since n m numbers.old bytes.old result numbers.new bytes.new }
 {
-    if !is_held(edition, d, since) {
-        return m;
-    }
-    if m != n {
+    if !is_held(edition, d, since) || m != n {
         return m;
     }
     put_held(numbers, bytes, n, from, since)

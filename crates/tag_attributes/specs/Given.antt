@@ -1,26 +1,19 @@
 -- The attributes that a start tag gives, as the code keeps them: the first ATTCNT + 1, four numbers each.
-use Rattle.std.specs.Prelude.{ℕ, zero, suc, ◌+◌, ◌*◌, ◌≤◌, ◌<◌, ◌≡◌, List, [], ◌∷◌, ◌++◌, get_or, take}
+use Rattle.std.specs.Prelude.{ℕ, Result, zero, suc, ◌+◌, ◌*◌, ◌≤◌, ◌<◌, ◌≡◌, List, [], ◌∷◌, ◌++◌, get_or, take}
 use Rattle.rules.specs.Bytes.{ATTCNT}
-use Rattle.rules.specs.Reading.{Reading, got}
+use Rattle.rules.specs.Reading.{Reading}
 use Rattle.rules.specs.Document as rules
 use Rattle.text.specs.declared.Fault.{Fault}
-use Rattle.text.specs.Refusal.{refusal_of}
+use Rattle.text.specs.Refusal.{reading}
 use Rattle.layout.specs.Sizes.{WRITTEN}
 use Rattle.tag_attributes.specs.declared.Written.{Written}
-use Rattle.tag_attributes.specs.declared.WrittenRead.{WrittenRead}
-use Rattle.tag_attributes.specs.declared.WrittenRead.TheVariants as written_read
 
 -- The rules' attribute that one of the code stands for.
 abbrev pub written_as : Written → rules.Written
 written_as w = record { at = w.name; size = w.size; quote = w.quote; width = w.width }
 
-abbrev pub written_of : WrittenRead → Reading rules.Written
-written_of (written_read.Read w) = got (written_as w)
-written_of (written_read.Refused f) = refusal_of f
-
-abbrev pub written_fault : WrittenRead → Fault
-written_fault (written_read.Read w) = record { number = 0; at = 0 }
-written_fault (written_read.Refused f) = f
+abbrev pub written_of : Result Written Fault → Reading rules.Written
+written_of r = reading written_as r
 
 -- The four numbers of the n-th, from 0.
 abbrev pub kept_in : List ℕ → (n : ℕ) → Written

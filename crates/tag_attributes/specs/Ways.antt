@@ -6,13 +6,7 @@ use Rattle.rules.specs.Bytes.{byte_at, separator, name_end, separators_end, LIT,
 use Rattle.rules.specs.Reading.{Reading, refused, got, and_then}
 use Rattle.rules.specs.Attributes.{quote, literal_end}
 use Rattle.rules.specs.Document.{Written, specification}
-use Rattle.text.specs.declared.Fault.{Fault}
-use Rattle.text.specs.Refusal.{refusal_of}
 use Rattle.text.specs.Words.{byte_is_in, test_in, span_end}
-use Rattle.tag_attributes.specs.declared.Written as here
-use Rattle.tag_attributes.specs.declared.WrittenRead.{WrittenRead}
-use Rattle.tag_attributes.specs.declared.WrittenRead.TheVariants.{Read, Refused}
-use Rattle.tag_attributes.specs.Given.{written_as, written_of, written_fault}
 
 -- Separators end where none stands.
 pub separators_none : (s : List ℕ) (i : ℕ) → separator (byte_at s i) ≡ false → i ≡ separators_end s i
@@ -88,11 +82,3 @@ module _ (long : ℕ) (s : List ℕ) (i e : ℕ) (q : e ≡ name_end s i) where
 
         pub literal_read : (z : ℕ) → literal_end s k ≡ got z → got (record { at = i; size = e - i; quote = k; width = z - (k + 1) }) ≡ specification long s i
         literal_read z l = rw l at from_literal
-
--- An answer by cases and the reading that it stands for.
-module _ {r : WrittenRead} {x : Reading Written} (h : written_of r ≡ x) where
-  pub written_got : {w : here.Written} → r ≡ Read w → x ≡ got (written_as w)
-  written_got q = sym h ∙ ap written_of q
-
-  pub written_refused : {f g : Fault} → r ≡ Refused f → g ≡ written_fault r → x ≡ refusal_of g
-  written_refused q e = sym h ∙ ap written_of q ∙ ap refusal_of (sym (e ∙ ap written_fault q))

@@ -6,10 +6,10 @@ ghost use Rattle.rules.specs.Bytes.{name_byte, name_end, ATTCNT};
 ghost use Rattle.rules.specs.Document.{specification};
 ghost use Rattle.layout.specs.Sizes.{GIVEN};
 ghost use Rattle.delimiters.specs.Classes.{Classes};
-ghost use Rattle.tag_attributes.specs.Given.{WrittenFits, Keeps, kept_in, written_of, written_fault};
+ghost use Rattle.tag_attributes.specs.Given.{WrittenFits, Keeps, kept_in, written_of};
 
 use layout::{ATTCNT, GIVEN, WRITTEN};
-use text::{Fault, Reached};
+use text::{Reading, Refusal};
 
 // An attribute as a tag gives it: where its name stands and how long that is, where the literal's opening quote stands, and how long the
 // value is.
@@ -19,23 +19,6 @@ pub struct Written {
     pub size: usize,
     pub quote: usize,
     pub width: usize,
-}
-
-// What is read of an attribute: where it stands, or the refusal.
-#[derive(Drop)]
-pub enum WrittenRead {
-    Read(Written),
-    Refused(Fault),
-}
-
-// The refusal of an answer that is one.
-pub fn fault_of(r: WrittenRead) -> Fault
-    ensures { result ≡ written_fault r }
-{
-    match r {
-        WrittenRead::Read(_) => Fault { number: 0, at: 0 },
-        WrittenRead::Refused(f) => f,
-    }
 }
 
 // Whether a name may have the byte, by the table of byte classes.
@@ -51,55 +34,45 @@ pub fn name_end(classes: &[u8; 256], s: &[u8], at: usize) -> usize
     requires { Classes classes.now × (at ≤ length s.now) }
     ensures { result ≡ name_end s.now at }
 {
-    let mut i = at;
-    while i < s.len() {
+    for i in at..s.len() {
         if !is_name_byte(classes, s[i]) {
             return i;
         }
-        i += 1;
     }
-    i
+    s.len()
 }
 
 // An attribute in a start tag, whose name, a letter, stands at i.
-pub fn specification_at(long: usize, classes: &[u8; 256], s: &[u8], i: usize) -> WrittenRead
+pub fn specification_at(long: usize, classes: &[u8; 256], s: &[u8], i: usize) -> Reading<Written>
     requires { Classes classes.now × (i ≤ length s.now) }
     ensures { written_of result ≡ specification long s.now i }
 {
     let e = name_end(classes, s, i);
     if long < e - i {
-        return WrittenRead::Refused(Fault { number: 3, at: i });
+        return Err(Refusal::NameTooLong.at(i));
     }
     let mut j = e;
     if text::byte(s, j) != b'=' {
         j = text::separators_end(s, j);
         if text::byte(s, j) != b'=' {
-            return WrittenRead::Refused(Fault { number: 4, at: j });
+            return Err(Refusal::Malformed.at(j));
         }
     }
     let mut k = j + 1;
     if !literals::is_quote(text::byte(s, k)) {
         k = text::separators_end(s, k);
         if !literals::is_quote(text::byte(s, k)) {
-            return WrittenRead::Refused(Fault { number: 4, at: k });
+            return Err(Refusal::Malformed.at(k));
         }
     }
-    let l = literals::literal_end(s, k);
-    let Reached::At(q) = l else {
-        return WrittenRead::Refused(text::fault_of(l));
-    };
-    WrittenRead::Read(Written {
+    let q = literals::literal_end(s, k)?;
+    Ok(Written {
         name: i,
         size: e - i,
         quote: k,
         width: q - (k + 1),
     })
 }
-
-// There is room for so many numbers.
-fn whole(given: [u16; GIVEN])
-    ensures { length given ≡ GIVEN }
-{}
 
 // The attribute is kept as the n-th of its tag, from 0, unless there are as many as can be told apart.
 pub fn keep(given: &mut [u16; GIVEN], n: usize, w: Written) -> usize
@@ -109,7 +82,6 @@ pub fn keep(given: &mut [u16; GIVEN], n: usize, w: Written) -> usize
     if ATTCNT < n {
         return n;
     }
-    whole(*given);
     let i = WRITTEN * n;
     given[i] = w.name as u16;
     given[i + 1] = w.size as u16;
@@ -125,9 +97,9 @@ pub fn kept(given: &[u16; GIVEN], n: usize) -> Written
 {
     let i = WRITTEN * n;
     Written {
-        name: numbers::short(given[i]),
-        size: numbers::short(given[i + 1]),
-        quote: numbers::short(given[i + 2]),
-        width: numbers::short(given[i + 3]),
+        name: usize::from(given[i]),
+        size: usize::from(given[i + 1]),
+        quote: usize::from(given[i + 2]),
+        width: usize::from(given[i + 3]),
     }
 }

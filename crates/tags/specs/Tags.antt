@@ -1,14 +1,13 @@
 -- The rules' tag that an answer of the code stands for, and each way that the rules read one.
-use Rattle.std.specs.Prelude.{ℕ, ◌+◌, ◌-◌, ◌≤◌, ◌<◌, ◌≡◌, List, []}
+use Rattle.std.specs.Prelude.{ℕ, Result, ◌+◌, ◌-◌, ◌≤◌, ◌<◌, ◌≡◌, List, []}
 use borrow.Author.Tests.{eq-eqb, ne_eqb, lt-ltb, le-ltb}
 use Rattle.rules.specs.Bytes.{byte_at, name_end, separators_end, MDC}
 use Rattle.rules.specs.Reading.{Reading, refused, got}
 use Rattle.rules.specs.Document.{tag, Written}
 use Rattle.rules.specs.Document as rules
-use Rattle.text.specs.Refusal.{refusal_of}
+use Rattle.text.specs.declared.Fault.{Fault}
+use Rattle.text.specs.Refusal.{reading}
 use Rattle.tags.specs.declared.Tag.{Tag}
-use Rattle.tags.specs.declared.TagRead.{TagRead}
-use Rattle.tags.specs.declared.TagRead.TheVariants as tag_read_here
 
 -- The rules' tag that gives these attributes.
 abbrev pub tag_with : List Written → Tag → rules.Tag
@@ -18,9 +17,8 @@ tag_with ws t = record { name = t.name; size = t.size; after = t.after; written 
 abbrev pub tag_in : Tag → rules.Tag
 tag_in t = tag_with [] t
 
-abbrev pub tag_of : TagRead → Reading rules.Tag
-tag_of (tag_read_here.Read t) = got (tag_in t)
-tag_of (tag_read_here.Refused f) = refusal_of f
+abbrev pub tag_of : Result Tag Fault → Reading rules.Tag
+tag_of r = reading tag_in r
 
 -- A tag where names may have `long` bytes, whose name ends at e and whose separators end at j.
 module _ (long : ℕ) (s : List ℕ) (at e : ℕ) (q : e ≡ name_end s at) where

@@ -10,8 +10,7 @@ ghost use Rattle.tags.specs.Given.{MeetsTag};
 ghost use Rattle.tags.specs.Attributes.{specifications_on};
 
 use layout::GIVEN;
-use tag_attributes::WrittenRead;
-use text::Fault;
+use text::{Reading, Refusal};
 
 // A tag: where its name stands, how long that is, where the tag ends, and how many of the attributes that it gives are kept.
 #[derive(Clone, Copy)]
@@ -22,32 +21,25 @@ pub struct Tag {
     pub given: usize,
 }
 
-// What is read of a tag: the tag, or the refusal.
-#[derive(Drop)]
-pub enum TagRead {
-    Read(Tag),
-    Refused(Fault),
-}
-
 // An end tag: name, separators, `>`, where the name begins at i. A name that is too long is refused before what follows it.
-pub fn tag_at(long: usize, classes: &[u8; 256], s: &[u8], i: usize) -> TagRead
+pub fn tag_at(long: usize, classes: &[u8; 256], s: &[u8], i: usize) -> Reading<Tag>
     requires { Classes classes.now × (i ≤ length s.now) }
     ensures { tag_of result ≡ tag long s.now i }
 {
     let e = tag_attributes::name_end(classes, s, i);
     if long < e - i {
-        return TagRead::Refused(Fault { number: 3, at: i });
+        return Err(Refusal::NameTooLong.at(i));
     }
     let j = text::separators_end(s, e);
     if text::byte(s, j) == b'>' {
-        return TagRead::Read(Tag {
+        return Ok(Tag {
             name: i,
             size: e - i,
             after: j + 1,
             given: 0,
         });
     }
-    TagRead::Refused(Fault { number: 4, at: j })
+    Err(Refusal::Malformed.at(j))
 }
 
 // What follows the name of a start tag, from i to e, and the separators behind it, which end at `first`: attributes, separators, `>`.
@@ -59,29 +51,26 @@ fn attributes_at(
     e: usize,
     first: usize,
     given: &mut [u16; GIVEN],
-) -> TagRead
+) -> Reading<Tag>
     requires { Classes classes.now × (i ≤ e) × (e ≤ first) × (first ≤ length s.now) × (length s.now ≤ document_limit) }
     ensures { MeetsTag (length s.now) given.new result (specifications_on long (length s.now) s.now i e first []) }
 {
     let mut n = 0;
     let mut j = first;
     while text::is_letter(text::byte(s, j)) {
-        let r = tag_attributes::specification_at(long, classes, s, j);
-        let WrittenRead::Read(w) = r else {
-            return TagRead::Refused(tag_attributes::fault_of(r));
-        };
+        let w = tag_attributes::specification_at(long, classes, s, j)?;
         n = tag_attributes::keep(given, n, w);
         j = text::separators_end(s, w.quote + w.width + 2);
     }
     if text::byte(s, j) == b'>' {
-        return TagRead::Read(Tag {
+        return Ok(Tag {
             name: i,
             size: e - i,
             after: j + 1,
             given: n,
         });
     }
-    TagRead::Refused(Fault { number: 4, at: j })
+    Err(Refusal::Malformed.at(j))
 }
 
 // A start tag: name, attributes, separators, `>`, where the name begins at i. What `given` holds behind the attributes that are kept, and where the tag is refused, is not
@@ -92,18 +81,18 @@ pub fn start_tag_at(
     s: &[u8],
     i: usize,
     given: &mut [u16; GIVEN],
-) -> TagRead
+) -> Reading<Tag>
     requires { Classes classes.now × (i ≤ length s.now) × (length s.now ≤ document_limit) }
     ensures { MeetsTag (length s.now) given.new result (start_tag_at long s.now i) }
 {
     let e = tag_attributes::name_end(classes, s, i);
     let size = e - i;
     if long < size {
-        return TagRead::Refused(Fault { number: 3, at: i });
+        return Err(Refusal::NameTooLong.at(i));
     }
     let j = text::separators_end(s, e);
     if text::byte(s, j) == b'>' {
-        return TagRead::Read(Tag {
+        return Ok(Tag {
             name: i,
             size: size,
             after: j + 1,
