@@ -87,11 +87,6 @@ pub fn unfit_at(s: &[u8], i: usize) -> Fault
     requires { i ≤ length s.now }
     ensures { result ≡ unfit_at s.now i }
 {
-    if text::byte(s, i) != b'-' {
-        return Refusal::Malformed.at(i);
-    }
-    if i + 1 < s.len() {
-        return Refusal::Malformed.at(i);
-    }
-    Refusal::Malformed.at(s.len())
+    let lone = text::byte(s, i) == b'-' && s.len() <= i + 1;
+    Refusal::Malformed.at(if lone { s.len() } else { i })
 }

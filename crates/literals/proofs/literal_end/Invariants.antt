@@ -1,13 +1,9 @@
 -- `literal_end` meets its contract. The invariant: what ends the literal from `e` on ends it from its first byte on.
-use Prim.Native.Nat.{◌+◌, ◌-◌, ◌≤◌}
-use mathlib.Core.Path.{◌≡◌}
-use lib.ListN.{length, drop}
+use Rattle.std.proofs.Common.{◌≡◌, ◌+◌, drop}
 use Rattle.rules.specs.Bytes.{byte_at}
 use Rattle.rules.specs.Attributes.{in_literal}
 use Rattle.literals.proofs.literal_end.Given as goal
 
 abbrev pub invariant-loop-e : goal.invariant-loop-e
-invariant-loop-e l = (l.e ≤ length l.s) × (l.q ≡ byte_at l.s l.i) × (l.e + in_literal (byte_at l.s l.i) (drop l.e l.s) ≡ l.i + 1 + in_literal (byte_at l.s l.i) (drop (l.i + 1) l.s))
-
-abbrev pub decreases-loop-e : goal.decreases-loop-e
-decreases-loop-e l = length l.s - l.e
+invariant-loop-e l =
+    (l.q ≡ byte_at l.s l.i) × (l.e + in_literal (byte_at l.s l.i) (drop l.e l.s) ≡ l.i + 1 + in_literal (byte_at l.s l.i) (drop (l.i + 1) l.s))
