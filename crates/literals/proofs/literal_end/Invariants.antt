@@ -5,5 +5,4 @@ use Rattle.rules.specs.Attributes.{in_literal}
 use Rattle.literals.proofs.literal_end.Given as goal
 
 abbrev pub invariant-loop-e : goal.invariant-loop-e
-invariant-loop-e l =
-    (l.q ≡ byte_at l.s l.i) × (l.e + in_literal (byte_at l.s l.i) (drop l.e l.s) ≡ l.i + 1 + in_literal (byte_at l.s l.i) (drop (l.i + 1) l.s))
+invariant-loop-e l = let q = byte_at l.s l.i in l.e + in_literal q (drop l.e l.s) ≡ l.i + 1 + in_literal q (drop (l.i + 1) l.s)
