@@ -1,5 +1,5 @@
 -- What stands at a position of a document under the settings c and a type, in the rules' terms.
-use Rattle.std.specs.Prelude.{ℕ, ◌+◌, ◌-◌, ◌≤◌, ◌<◌, ◌≡◌, true, List}
+use Rattle.std.specs.Prelude.{ℕ, Result, Ok, Err, ◌+◌, ◌-◌, ◌≤◌, ◌<◌, ◌≡◌, true, List}
 use Rattle.rules.specs.Settings.{Settings}
 use Rattle.rules.specs.Reading.{refused, got}
 use Rattle.rules.specs.TypeFile.{Element}
@@ -13,6 +13,10 @@ use Rattle.rules.specs.Reader.{piece_under}
 use Rattle.document_laws.specs.Decide.{decided}
 use Rattle.rules_laws.specs.Runs.{is_run, run_end}
 use Rattle.rules.specs.Bytes.{element_limit}
+use Rattle.text.specs.declared.Fault.{Fault}
+use Rattle.text.specs.declared.Refusal.TheVariants.{Undeclared}
+use Rattle.text.specs.Refusal.{fault_at}
+use Rattle.layout.specs.declared.ElementNo.{ElementNo}
 use Rattle.attribute_marks.specs.Marks.{Marked}
 use Rattle.pieces.specs.declared.Found.{Found}
 use Rattle.pieces.specs.declared.Found.TheVariants as found
@@ -48,23 +52,41 @@ pub data ToSettle (c : Settings) (s : List ℕ) (es : List Element) (d : List �
   starts : 1 ≤ x → Names c s es d l o start_tag at x after → ToSettle c s es d l o at x after
 
 -- What the code finds at `at` of d, where the current element is o and l is the line.
-abbrev pub Finds : Settings → (s : List ℕ) (es : List Element) (d : List ℕ) (l : Line) (o : Open) (at : ℕ) → Found → Type 0
-Finds c s es d l o at (found.Token x after) = ToSettle c s es d l o at x.0 after
-Finds c s es d l o at (found.End x after) = Names c s es d l o end_tag at x.0 after × (1 ≤ x.0)
-Finds c s es d l o at (found.Passed after) = Ignored c s es d l o at after
-Finds c s es d l o at (found.Refused f) = Unread c s es d l o at f.number f.at
+abbrev pub Stands : Settings → (s : List ℕ) (es : List Element) (d : List ℕ) (l : Line) (o : Open) (at : ℕ) → Found → Type 0
+Stands c s es d l o at (found.Token x after) = ToSettle c s es d l o at x.0 after
+Stands c s es d l o at (found.End x after) = Names c s es d l o end_tag at x.0 after × (1 ≤ x.0)
+Stands c s es d l o at (found.Passed after) = Ignored c s es d l o at after
+
+abbrev pub Finds : Settings → (s : List ℕ) (es : List Element) (d : List ℕ) (l : Line) (o : Open) (at : ℕ) → Result Found Fault → Type 0
+Finds c s es d l o at (Ok p) = Stands c s es d l o at p
+Finds c s es d l o at (Err f) = Unread c s es d l o at f.number f.at
 
 -- Where it is a start tag of the element x, each attribute of that is marked as the tag gives it.
-abbrev pub MarksAt : Settings → (s : List ℕ) (es : List Element) (d : List ℕ) (at : ℕ) → Found → (marks : List ℕ) → Type 0
-MarksAt c s es d at (found.Token x after) marks = 1 ≤ x.0 → (t : Tag) → piece c.name_length d at ≡ got (start_tag t) → Marked s (element_at es (x.0 - 1)).attributes d t.written marks
-MarksAt c s es d at (found.End x after) marks = Unit {0}
-MarksAt c s es d at (found.Passed after) marks = Unit {0}
-MarksAt c s es d at (found.Refused f) marks = Unit {0}
+abbrev pub MarksOf : Settings → (s : List ℕ) (es : List Element) (d : List ℕ) (at : ℕ) → Found → (marks : List ℕ) → Type 0
+MarksOf c s es d at (found.Token x after) marks = 1 ≤ x.0 → (t : Tag) → piece c.name_length d at ≡ got (start_tag t) → Marked s (element_at es (x.0 - 1)).attributes d t.written marks
+MarksOf c s es d at (found.End x after) marks = Unit {0}
+MarksOf c s es d at (found.Passed after) marks = Unit {0}
+
+abbrev pub MarksAt : Settings → (s : List ℕ) (es : List Element) (d : List ℕ) (at : ℕ) → Result Found Fault → (marks : List ℕ) → Type 0
+MarksAt c s es d at (Ok p) marks = MarksOf c s es d at p marks
+MarksAt c s es d at (Err f) marks = Unit {0}
 
 -- What is found moves on and stays within the document, which is `len` bytes long, and names an element that the tables have room for,
 -- whatever they hold.
-abbrev pub Onward : (len at : ℕ) → Found → Type 0
-Onward len at (found.Token x after) = (x.0 ≤ element_limit) × (at < after) × (after ≤ len)
-Onward len at (found.End x after) = (x.0 ≤ element_limit) × (at < after) × (after ≤ len)
-Onward len at (found.Passed after) = (at < after) × (after ≤ len)
-Onward len at (found.Refused f) = Unit {0}
+abbrev pub MovesOn : (len at : ℕ) → Found → Type 0
+MovesOn len at (found.Token x after) = (x.0 ≤ element_limit) × (at < after) × (after ≤ len)
+MovesOn len at (found.End x after) = (x.0 ≤ element_limit) × (at < after) × (after ≤ len)
+MovesOn len at (found.Passed after) = (at < after) × (after ≤ len)
+
+abbrev pub Onward : (len at : ℕ) → Result Found Fault → Type 0
+Onward len at (Ok p) = MovesOn len at p
+Onward len at (Err f) = Unit {0}
+
+-- The element that the tag at `at` names, whose number is n, or 0; and that whatever the tables hold.
+abbrev pub Numbered : (at : ℕ) → Result ElementNo Fault → (n : ℕ) → Type 0
+Numbered at (Ok x) n = x.0 ≡ n
+Numbered at (Err f) n = (n ≡ 0) × (f ≡ fault_at Undeclared at)
+
+abbrev pub Ranged : Result ElementNo Fault → Type 0
+Ranged (Ok x) = (1 ≤ x.0) × (x.0 ≤ element_limit)
+Ranged (Err f) = Unit {0}

@@ -1,7 +1,6 @@
 // What stands at a position of a document, names looked up.
 //
-// `elements` and `index` are those of the crate element_index, `rows`, `places`, `facts` and `members` those of type_tables, `begun` has
-// the bits of what has begun in each open element, `classes` is the table of delimiters, `lists` that of list_table, `given` that of tag_attributes, `marks` that of
+// `begun` has the bits of what has begun in each open element, `classes` is the table of delimiters, `given` that of tag_attributes, `marks` that of
 // attribute_marks. Where the tables are no type's, what is found is not decided, but that its element is at most 64 and that it ends
 // further on, within the document, unless it is refused.
 #![tactic(auto)]
@@ -25,12 +24,27 @@ ghost use Rattle.attribute_marks.specs.Differ.{NamesDiffer};
 ghost use Rattle.attribute_marks.specs.Marks.{Attributed};
 ghost use Rattle.type_tables.specs.Tables.{Tables, Entered};
 ghost use Rattle.record_ends.specs.Held.{line_of};
-ghost use Rattle.pieces.specs.Finds.{Finds, MarksAt, Onward};
+ghost use Rattle.pieces.specs.Finds.{Finds, MarksAt, Onward, Numbered, Ranged};
 
 use document_text::Piece;
-use layout::{BEGUN, ElementNo, FACTS, GIVEN, INDEX, MARKS, PLACES, Place, RECORDS, ROWS};
+use layout::{BEGUN, ElementNo, GIVEN, INDEX, MARKS, Place, RECORDS};
+use record_ends::Line;
 use tags::Tag;
-use text::Fault;
+use text::{Reading, Refusal};
+use type_tables::TypeTables;
+
+// What a document is read under: how long a name may be and the edition, the type file, the records of its elements and their index (crate element_index), the
+// tables of the type, and its attribute lists (crate list_table).
+#[derive(Clone, Copy)]
+pub struct Type<'a> {
+    pub long: usize,
+    pub edition: usize,
+    pub file: &'a [u8],
+    pub elements: &'a [u32; RECORDS],
+    pub index: &'a [u8; INDEX],
+    pub tables: TypeTables<'a>,
+    pub lists: &'a [u16],
+}
 
 // What stands at a position of the document, names looked up.
 #[derive(Drop)]
@@ -41,115 +55,88 @@ pub enum Found {
     End(ElementNo, usize),
     // It is ignored, up to here.
     Passed(usize),
-    Refused(Fault),
 }
 
-// The tag at `at` is of an undeclared name, number 10.
-fn undeclared(at: usize) -> Found
-    ensures { result ≡ Found.Refused (record { number = 10; at = at }) }
+// The element that the tag at `at` names.
+fn tagged(t: Type, d: &[u8], g: Tag, at: usize) -> Reading<ElementNo>
+    requires { (1 ≤ g.size) × (g.size ≤ most_name_length) × (g.name + g.size ≤ length d.now) }
+    ensures numbered { (es : List Element) → Indexed t.file.now es t.elements.now t.index.now →
+        Numbered at result (number_of t.file.now es d.now g.name g.size) }
+    ensures ranged { Ranged result }
 {
-    Found::Refused(Fault { number: 10, at: at })
+    let x = element_index::find(t.file, t.elements, t.index, d, g.name, g.size).element;
+    if x.0 == 0 {
+        return Err(Refusal::Undeclared.at(at));
+    }
+    Ok(x)
 }
 
-// The element that a tag names, or 0.
-fn tagged(s: &[u8], elements: &[u32; RECORDS], index: &[u8; INDEX], d: &[u8], t: Tag) -> ElementNo
-    requires { (1 ≤ t.size) × (t.size ≤ most_name_length) × (t.name + t.size ≤ length d.now) }
-    ensures { ((es : List Element) → Indexed s.now es elements.now index.now →
-        result.0 ≡ number_of s.now es d.now t.name t.size) × (result.0 ≤ element_limit) }
-{
-    let f = element_index::find(s, elements, index, d, t.name, t.size);
-    f.element
-}
-
-// What the start tag at `at`, of the element x, gives, of which n attributes are kept, held against the list of x: 20, 22 or 21, or number 0, and then they are marked. Where
+// What the start tag at `at`, of the element x, gives, of which n attributes are kept, held against the list of x: 20, 22 or 21, or they are marked. Where
 // no element has a list and none is given there is nothing to hold.
 fn held(
-    long: usize,
-    s: &[u8],
-    lists: &[u16],
+    t: Type,
     d: &[u8],
     x: ElementNo,
     given: &[u16; GIVEN],
     n: usize,
     at: usize,
     marks: &mut [u16; MARKS],
-) -> Fault
-    requires { (1 ≤ x.0) × (x.0 ≤ element_limit) × (n ≤ ATTCNT + 1) × GivenIn (length d.now) given.now n × (length s.now ≤ type_limit) × (length d.now ≤ document_limit) }
-    ensures { (xs : List Attribute) (ws : List document.Written) → ListAt long s.now lists.now (LIST * (x.0 - 1)) xs → NamesDiffer s.now xs → KeptAs given.now n ws →
-        Attributed s.now xs d.now ws marks.new result (attributed long s.now xs d.now at ws) }
+) -> Reading<()>
+    requires { (1 ≤ x.0) × (x.0 ≤ element_limit) × (n ≤ ATTCNT + 1) × GivenIn (length d.now) given.now n × (length t.file.now ≤ type_limit) × (length d.now ≤ document_limit) }
+    ensures { (xs : List Attribute) (ws : List document.Written) → ListAt t.long t.file.now t.lists.now (LIST * (x.0 - 1)) xs → NamesDiffer t.file.now xs → KeptAs given.now n ws →
+        Attributed t.file.now xs d.now ws marks.new result (attributed t.long t.file.now xs d.now at ws) }
 {
-    if n == 0 {
-        if lists.len() == 0 {
-            return Fault { number: 0, at: 0 };
-        }
+    if n == 0 && t.lists.is_empty() {
+        return Ok(());
     }
-    attribute_marks::check(long, s, lists, d, x, given, n, at, marks)
+    attribute_marks::check(t.long, t.file, t.lists, d, x, given, n, at, marks)
 }
 
-// What stands at `at`, where the current element, of which so many are around it as `level` says, is e after the place u. `since` and `mark` are those of
-// record_ends. Where it is a start tag, `marks` has the attributes that it gives; else, and where it is refused, what that holds is not decided.
+// What stands at `at`, where the current element, of which so many are around it as `level` says, is e after the place u. Where it is a start tag, `marks` has the attributes that it gives;
+// else, and where it is refused, what that holds is not decided.
 pub fn found_at(
-    long: usize,
-    edition: usize,
-    s: &[u8],
-    elements: &[u32; RECORDS],
-    index: &[u8; INDEX],
-    rows: &[u8; ROWS],
-    places: &[u8; PLACES],
-    facts: &[u8; FACTS],
-    members: &[u8],
-    begun: &[u32; BEGUN],
-    lists: &[u16],
+    t: Type,
     classes: &[u8; 256],
+    begun: &[u32; BEGUN],
     d: &[u8],
     level: usize,
     e: ElementNo,
     u: Place,
     at: usize,
-    since: usize,
-    mark: usize,
+    line: Line,
     given: &mut [u16; GIVEN],
     marks: &mut [u16; MARKS],
-) -> Found
-    requires { Classes classes.now × (long ≤ most_name_length) × (level ≤ TAGLVL) × (e.0 ≤ element_limit) × (u.0 ≤ GRPGTCNT) × (at < length d.now) × (length d.now ≤ document_limit) × (length s.now ≤ type_limit) × (since ≤ at) }
+) -> Reading<Found>
+    requires { Classes classes.now × (t.long ≤ most_name_length) × (level ≤ TAGLVL) × (e.0 ≤ element_limit) × (u.0 ≤ GRPGTCNT) × (at < length d.now) × (length d.now ≤ document_limit) × (length t.file.now ≤ type_limit) × (line.since ≤ at) }
     ensures onward { Onward (length d.now) at result }
-    ensures finds { (es : List Element) → Indexed s.now es elements.now index.now → Tables s.now es rows.now places.now facts.now members.now →
-        Lists long s.now es lists.now →
-        (o : rules.Open) → Entered es members.now begun.now level e.0 u.0 o → (since ≡ 0 → is_fresh o ≡ true) →
-        Finds (settings long edition) s.now es d.now (line_of since mark) o at result × MarksAt (settings long edition) s.now es d.now at result marks.new }
+    ensures finds { (es : List Element) → Indexed t.file.now es t.elements.now t.index.now →
+        Tables t.file.now es t.tables.rows.now t.tables.places.now t.tables.facts.now t.tables.members.now →
+        Lists t.long t.file.now es t.lists.now →
+        (o : rules.Open) → Entered es t.tables.members.now begun.now level e.0 u.0 o → (line.since ≡ 0 → is_fresh o ≡ true) →
+        Finds (settings t.long t.edition) t.file.now es d.now (line_of line.since line.mark) o at result ×
+        MarksAt (settings t.long t.edition) t.file.now es d.now at result marks.new }
 {
-    let t = document_text::piece_at(long, classes, d, at, given);
-    let data = ElementNo(0);
-    match t {
+    match document_text::piece_at(t.long, classes, d, at, given)? {
         Piece::StartTag(g) => {
-            let x = tagged(s, elements, index, d, g);
-            if x.0 == 0 {
-                return undeclared(at);
-            }
-            let f = held(long, s, lists, d, x, given, g.given, at, marks);
-            if f.number != 0 {
-                return Found::Refused(f);
-            }
-            return Found::Token(x, g.after);
+            let x = tagged(t, d, g, at)?;
+            held(t, d, x, given, g.given, at, marks)?;
+            return Ok(Found::Token(x, g.after));
         }
         Piece::EndTag(g) => {
-            let x = tagged(s, elements, index, d, g);
-            if x.0 == 0 {
-                return undeclared(at);
-            }
-            return Found::End(x, g.after);
+            let x = tagged(t, d, g, at)?;
+            return Ok(Found::End(x, g.after));
         }
-        Piece::Skipped(j) => return Found::Passed(j),
-        Piece::Refused(f) => return Found::Refused(f),
+        Piece::Skipped(j) => return Ok(Found::Passed(j)),
         Piece::Blank => {
-            if !type_tables::takes_data(rows, places, facts, members, begun, level, e, u) {
-                return Found::Passed(at + 1);
+            if !type_tables::takes_data(t.tables, begun, level, e, u) {
+                return Ok(Found::Passed(at + 1));
             }
-            if record_ends::is_ignored(edition, d, at, since, mark, u) {
-                return Found::Passed(at + 1);
+            if line.is_ignored(t.edition, d, at, u) {
+                return Ok(Found::Passed(at + 1));
             }
         }
         Piece::Data => {}
     }
-    Found::Token(data, data_runs::run_end(classes, d, at + 1))
+    let data = ElementNo(0);
+    Ok(Found::Token(data, data_runs::run_end(classes, d, at + 1)))
 }
