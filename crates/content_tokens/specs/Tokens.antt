@@ -22,8 +22,9 @@ use Rattle.model_names.specs.Shared.{places_of_length}
 use Rattle.connectors.specs.declared.Model.{Model}
 use Rattle.connectors.specs.Kept.{begun, Ready, Tabled, Keeps}
 use Rattle.connectors.specs.Grown.{joins_one, ready_more, tabled_put, tabled_on}
-use Rattle.content_tokens.specs.declared.ModelRead.{ModelRead}
-use Rattle.content_tokens.specs.declared.ModelRead.TheVariants.{Refused}
+use Rattle.text.specs.Refusal.{fault_at}
+use Rattle.text.specs.declared.Fault.{Fault}
+use Rattle.text.specs.declared.Refusal.TheVariants.{Malformed}
 use Rattle.content_tokens.specs.Meets.{wrong_data}
 
 -- A new place is put.
@@ -138,12 +139,9 @@ module _ (s : List ℕ) (at : ℕ) (full : Bool) (ps : List Place) (n : ℕ) whe
 
 -- Where a wrong word after `#` stands.
 
-refusal_at : (k l : ℕ) {r : ModelRead} → r ≡ Refused (record { number = 4; at = k }) → l ≡ k → r ≡ Refused (record { number = 4; at = l })
-refusal_at k l e q = e ∙ ap (λ (x : ℕ). Refused (record { number = 4; at = x })) (sym q)
+module _ (s : List ℕ) (at e : ℕ) (w : Bool) (W : w ≡ is_cut s (at + 1) e PCDATA) {r : Fault} where
+  pub wrong_cut : w ≡ true → r ≡ fault_at Malformed (length s) → r ≡ fault_at Malformed (wrong_data s at e)
+  wrong_cut q f = f ∙ ap (fault_at Malformed) (rw (← W, q))
 
-module _ (s : List ℕ) (at e : ℕ) (w : Bool) (W : w ≡ is_cut s (at + 1) e PCDATA) {r : ModelRead} where
-  pub wrong_cut : w ≡ true → r ≡ Refused (record { number = 4; at = length s }) → r ≡ Refused (record { number = 4; at = wrong_data s at e })
-  wrong_cut q f = refusal_at _ _ f (rw (← W, q))
-
-  pub wrong_whole : w ≡ false → r ≡ Refused (record { number = 4; at = at }) → r ≡ Refused (record { number = 4; at = wrong_data s at e })
-  wrong_whole q f = refusal_at _ _ f (rw (← W, q))
+  pub wrong_whole : w ≡ false → r ≡ fault_at Malformed at → r ≡ fault_at Malformed (wrong_data s at e)
+  wrong_whole q f = f ∙ ap (fault_at Malformed) (rw (← W, q))

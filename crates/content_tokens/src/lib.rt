@@ -6,38 +6,13 @@ ghost use Rattle.rules.specs.TypeFile.{name_token, data_token};
 ghost use Rattle.rules.specs.Bytes.{GRPGTCNT, type_limit};
 ghost use Rattle.model_names.specs.Places.{places_of};
 ghost use Rattle.connectors.specs.Kept.{begun};
-ghost use Rattle.content_tokens.specs.Meets.{wrong_data, Meets, model_fault};
+ghost use Rattle.text.specs.Refusal.{fault_at};
+ghost use Rattle.text.specs.declared.Refusal.TheVariants.{Malformed};
+ghost use Rattle.content_tokens.specs.Meets.{wrong_data, Meets};
 
 use connectors::Model;
 use layout::{MODEL, NAMES};
-use text::Fault;
-
-// A model, or a part of one, that was read, or the refusal of it.
-#[derive(Drop)]
-pub enum ModelRead {
-    Read(Model),
-    Refused(Fault),
-}
-
-// The refusal of an answer that is one.
-pub fn fault_of(r: ModelRead) -> Fault
-    ensures { result ≡ model_fault r }
-{
-    match r {
-        ModelRead::Read(_) => Fault { number: 0, at: 0 },
-        ModelRead::Refused(f) => f,
-    }
-}
-
-// A refusal by number and position.
-pub fn refusal(number: u32, at: usize) -> ModelRead
-    ensures { result ≡ ModelRead.Refused (record { number = number; at = at }) }
-{
-    ModelRead::Refused(Fault {
-        number: number,
-        at: at,
-    })
-}
+use text::{Fault, Reading, Refusal};
 
 // A name as content token, at most `long` bytes long. Where it is refused, what `names` and `table` hold is not decided; nor is, here and
 // below, what they hold behind the places that were read.
@@ -51,7 +26,7 @@ pub fn name_token(
     code: u16,
     names: &mut [u32; NAMES],
     table: &mut [u8; MODEL],
-) -> ModelRead
+) -> Reading<Model>
     requires at_in_bounds { (at ≤ length s.now) × (length s.now ≤ type_limit) }
     requires places_le_tokens { (places ≤ tokens) × (full ≡ false → tokens < GRPGTCNT) }
     ensures { Meets (length s.now) (begun (places + 1) table.old code (4 * tokens + 3)) names.new table.new result
@@ -60,10 +35,10 @@ pub fn name_token(
     let e = text::name_end(s, at);
     let n = e - at;
     if long < n {
-        return refusal(3, at);
+        return Err(Refusal::NameTooLong.at(at));
     }
     if full {
-        return refusal(6, at);
+        return Err(Refusal::Quantity.at(at));
     }
     model_names::put_name(names, places, at, n);
     let p = places + 1;
@@ -78,18 +53,18 @@ pub fn name_token(
         and: 0,
         repeated: 0,
     };
-    ModelRead::Read(connectors::with_occurrence(s, table, p, m))
+    Ok(connectors::with_occurrence(s, table, p, m))
 }
 
 // A word after the `#` at `at` that ends at e and is not PCDATA: at the `#`, or where the input ends within it.
-fn wrong_data(s: &[u8], at: usize, e: usize) -> ModelRead
+fn wrong_data(s: &[u8], at: usize, e: usize) -> Fault
     requires { (at < e) × (e ≤ length s.now) × (length s.now ≤ type_limit) }
-    ensures { result ≡ ModelRead.Refused (record { number = 4; at = wrong_data s.now at e }) }
+    ensures { result ≡ fault_at Malformed (wrong_data s.now at e) }
 {
     if words::is_cut(s, at + 1, e, b"PCDATA") {
-        return refusal(4, s.len());
+        return Refusal::Malformed.at(s.len());
     }
-    refusal(4, at)
+    Refusal::Malformed.at(at)
 }
 
 // `#PCDATA` as content token. Where it is refused, what `names` and `table` hold is not decided.
@@ -102,7 +77,7 @@ pub fn data_token(
     code: u16,
     names: &mut [u32; NAMES],
     table: &mut [u8; MODEL],
-) -> ModelRead
+) -> Reading<Model>
     requires at_in_bounds { (at < length s.now) × (length s.now ≤ type_limit) }
     requires places_le_tokens { (places ≤ tokens) × (full ≡ false → tokens < GRPGTCNT) }
     ensures { Meets (length s.now) (begun (places + 1) table.old code (4 * tokens + 3)) names.new table.new result
@@ -112,10 +87,10 @@ pub fn data_token(
     if text::is_letter(b) {
         let e = text::name_end(s, at + 1);
         if !words::is_word(s, at + 1, e, b"PCDATA") {
-            return wrong_data(s, at, e);
+            return Err(wrong_data(s, at, e));
         }
         if full {
-            return refusal(6, at);
+            return Err(Refusal::Quantity.at(at));
         }
         model_names::put_name(names, places, at, 0);
         let p = places + 1;
@@ -123,7 +98,7 @@ pub fn data_token(
         model_table::repeat(table, p, p + 1);
         let one = model_code::put(table, code, p as u8);
         let many = model_code::put(table, one, model_code::PLUS_CODE);
-        return ModelRead::Read(Model {
+        return Ok(Model {
             at: e,
             places: p,
             tokens: tokens + 1,
@@ -133,5 +108,5 @@ pub fn data_token(
             repeated: 0,
         });
     }
-    refusal(4, at + 1)
+    Err(Refusal::Malformed.at(at + 1))
 }

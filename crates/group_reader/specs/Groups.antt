@@ -1,5 +1,5 @@
 -- Laws of model groups: what may stand in one, what follows a content token, and what is kept of the members so far.
-use Rattle.std.specs.Prelude.{ℕ, zero, suc, ◌+◌, ◌-◌, ◌*◌, ◌≤◌, ◌<◌, ◌≡◌, refl, Bool, true, false, ◌&&◌, ◌||◌, List, [], ◌∷◌, ◌++◌, length, eqb, leb}
+use Rattle.std.specs.Prelude.{ℕ, zero, suc, ◌+◌, ◌-◌, ◌*◌, ◌≤◌, ◌<◌, ◌≡◌, refl, Result, Ok, Err, Bool, true, false, ◌&&◌, ◌||◌, List, [], ◌∷◌, ◌++◌, length, eqb, leb}
 use Rattle.std.proofs.Common.{sym, ap, subst, ◌∙◌, true≢false, arith}
 use borrow.Author.Tests.{eq-eqb, ne_eqb, eqb-true, le-leb, leb-false}
 use Rattle.model_code.specs.Codes.{AND_CODE}
@@ -17,15 +17,13 @@ use Rattle.model_names.specs.Places.{places_of}
 use Rattle.rules_laws.specs.Groups.{further_room}
 use Rattle.layout.specs.Sizes.{POSITIONS}
 use Rattle.connectors.specs.declared.Model.{Model}
-use Rattle.content_tokens.specs.declared.ModelRead.{ModelRead}
-use Rattle.content_tokens.specs.declared.ModelRead.TheVariants.{Read, Refused}
 use Rattle.connectors.specs.Kept.{Begun, begun, Ready, Tabled, spelt, Joins, Keeps, join_model, join_table}
 use Rattle.connectors.specs.Grown.{ready_more, tabled_less, tabled_put, grouped, gone_on, keeps_on, keeps_less, last_place}
 use Rattle.connectors.specs.Joined.{join_kept}
-use Rattle.content_tokens.specs.Meets.{Meets, model_fault}
+use Rattle.content_tokens.specs.Meets.{Meets}
 use Rattle.content_tokens.specs.Readings.{read_got, refused_is, got_meets, refused_meets}
 use Rattle.group_reader.specs.declared.Next.{Next}
-use Rattle.group_reader.specs.declared.Next.TheVariants.{Closed, Joined, Unfit}
+use Rattle.group_reader.specs.declared.Next.TheVariants.{Closed, Joined}
 use Rattle.group_reader.specs.Further.{before_end, MeetsFurther, closed_table, closed_code}
 
 -- Two tests of which one is to hold.
@@ -42,27 +40,27 @@ connector_in s i (suc b) joint y B Y e = byte_is_in s i (suc b) (sym B) (omega a
 -- An answer on what follows and the reading that it stands for.
 
 module _ (end : ℕ) (B : Begun) (k : ℕ) (names table : List ℕ) where
-  pub closed_got : (m : Model) (x : Reading Further) → MeetsFurther end B k names table (Closed m) x → (t : Tokens) × (x ≡ got (closed t)) × Keeps end B 1 0 names table m t
+  pub closed_got : (m : Model) (x : Reading Further) → MeetsFurther end B k names table (Ok (Closed m)) x → (t : Tokens) × (x ≡ got (closed t)) × Keeps end B 1 0 names table m t
   closed_got m (refused n p) h = absurd h
   closed_got m (got (closed t)) h = (t, refl, h)
   closed_got m (got (joined b t)) h = absurd h
 
-  pub joined_got : (joint : ℕ) (m : Model) (x : Reading Further) → MeetsFurther end B k names table (Joined joint m) x → (t : Tokens) × (x ≡ got (joined joint t)) × Keeps end (before_end B) (k + 1) joint names table m t
+  pub joined_got : (joint : ℕ) (m : Model) (x : Reading Further) → MeetsFurther end B k names table (Ok (Joined joint m)) x → (t : Tokens) × (x ≡ got (joined joint t)) × Keeps end (before_end B) (k + 1) joint names table m t
   joined_got joint m (refused n p) h = absurd h
   joined_got joint m (got (closed t)) h = absurd h
   joined_got joint m (got (joined b t)) h = (t, ap (λ (d : ℕ). got (joined d t)) (sym h.0), subst (λ (d : ℕ). Keeps end (before_end B) (k + 1) d names table m t) (sym h.0) h.1)
 
-  pub unfit_is : (f : Fault) (x : Reading Further) → MeetsFurther end B k names table (Unfit f) x → x ≡ refused f.number f.at
+  pub unfit_is : (f : Fault) (x : Reading Further) → MeetsFurther end B k names table (Err f) x → x ≡ refused f.number f.at
   unfit_is f (refused n p) h = cc (h.0, h.1)
   unfit_is f (got x) h = absurd h
 
-  pub closed_meets : (r : Next) (m : Model) (x : Reading Further) (t : Tokens) → r ≡ Closed m → x ≡ got (closed t) → Keeps end B 1 0 names table m t → MeetsFurther end B k names table r x
+  pub closed_meets : (r : Result Next Fault) (m : Model) (x : Reading Further) (t : Tokens) → r ≡ Ok (Closed m) → x ≡ got (closed t) → Keeps end B 1 0 names table m t → MeetsFurther end B k names table r x
   closed_meets r m x t p q h = rw (p, q) h
 
-  pub joined_meets : (r : Next) (b : ℕ) (m : Model) (x : Reading Further) (t : Tokens) → r ≡ Joined b m → x ≡ got (joined b t) → Keeps end (before_end B) (k + 1) b names table m t → MeetsFurther end B k names table r x
+  pub joined_meets : (r : Result Next Fault) (b : ℕ) (m : Model) (x : Reading Further) (t : Tokens) → r ≡ Ok (Joined b m) → x ≡ got (joined b t) → Keeps end (before_end B) (k + 1) b names table m t → MeetsFurther end B k names table r x
   joined_meets r b m x t p q h = rw (p, q) (refl, h)
 
-  pub unfit_meets : (r : Next) (f : Fault) (x : Reading Further) → r ≡ Unfit f → x ≡ refused f.number f.at → MeetsFurther end B k names table r x
+  pub unfit_meets : (r : Result Next Fault) (f : Fault) (x : Reading Further) → r ≡ Err f → x ≡ refused f.number f.at → MeetsFurther end B k names table r x
   unfit_meets r f x p q = rw (p, q) (refl, refl)
 
 -- A content token is read.
@@ -151,8 +149,8 @@ group_some long (suc levels) s at i ps n h I =
     rw (e, I)
 
 -- A group whose first token was read.
-pub group_begun : (long : ℕ) (levels : ℕ) (s : List ℕ) (at i : ℕ) (ps : List Place) (n lo : ℕ) (T : List ℕ) (code : ℕ) (names table : List ℕ) (r : ModelRead) (m : Model)
-    → Meets (length s) (begun lo T code (4 * n + 3)) names table r (token long (group long (levels - 1) s) s i (leb GRPGTCNT n) ps n) → r ≡ Read m → (levels ≡ 0 → ⊥) → i ≡ separators_end s (at + 1)
+pub group_begun : (long : ℕ) (levels : ℕ) (s : List ℕ) (at i : ℕ) (ps : List Place) (n lo : ℕ) (T : List ℕ) (code : ℕ) (names table : List ℕ) (r : Result Model Fault) (m : Model)
+    → Meets (length s) (begun lo T code (4 * n + 3)) names table r (token long (group long (levels - 1) s) s i (leb GRPGTCNT n) ps n) → r ≡ Ok m → (levels ≡ 0 → ⊥) → i ≡ separators_end s (at + 1)
     → (t : Tokens) × Keeps (length s) (begun lo T code (4 * n + 2 + 1)) 1 0 names table m t × (group long levels s at ps n ≡ members long (group long (levels - 1) s) s GRPCNT 1 0 t)
 group_begun long levels s at i ps n lo T code names table r m M e h I =
     let x : Reading Tokens = token long (group long (levels - 1) s) s i (leb GRPGTCNT n) ps n in
@@ -182,7 +180,7 @@ module _ (long : ℕ) (inner : ℕ → List Place → ℕ → Reading Tokens) (s
   here = I ∙ ap (separators_end s) K.at
 
   pub next_closed : (table' : List ℕ) (e : ℕ) → b ≡ GRPC → table' ≡ closed_table k joint m.code table → e ≡ closed_code k joint m.code
-      → MeetsFurther (length s) (begun lo T n d) k names table' (Closed (gone_on m (i + 1) m.part e m.repeated)) (further long inner s k joint t)
+      → MeetsFurther (length s) (begun lo T n d) k names table' (Ok (Closed (gone_on m (i + 1) m.part e m.repeated))) (further long inner s k joint t)
   next_closed table' e p f g =
       closed_meets _ (begun lo T n d) k names table' _ _ _ _ refl (further_closed long inner s k joint t i b here B p)
       (keeps_on _ lo T n (d + 1) k joint names table table' m t K d t.group (i + 1) (i + 1) m.part e _ _ refl (omega (arith, byte_is_in s i GRPC (sym B ∙ p) (omega arith))) K.part K.repeated_at
@@ -192,25 +190,25 @@ module _ (long : ℕ) (inner : ℕ → List Place → ℕ → Reading Tokens) (s
       K.numbered refl)
 
   module _ (p : b ≡ GRPC → ⊥) where
-    pub next_unfit : b ≡ PERO → MeetsFurther (length s) (begun lo T n d) k names table (Unfit (record { number = 5; at = i })) (further long inner s k joint t)
+    pub next_unfit : b ≡ PERO → MeetsFurther (length s) (begun lo T n d) k names table (Err (record { number = 5; at = i })) (further long inner s k joint t)
     next_unfit q = unfit_meets (length s) (begun lo T n d) k names table _ _ _ refl (further_unfit long inner s k joint t i b here B p q)
 
     module _ (q : b ≡ PERO → ⊥) (y : Bool) (Y : y ≡ (is_connector b && (eqb joint 0 || eqb joint b))) where
-      pub next_other : y ≡ false → MeetsFurther (length s) (begun lo T n d) k names table (Unfit (record { number = 4; at = i })) (further long inner s k joint t)
+      pub next_other : y ≡ false → MeetsFurther (length s) (begun lo T n d) k names table (Err (record { number = 4; at = i })) (further long inner s k joint t)
       next_other r = unfit_meets (length s) (begun lo T n d) k names table _ _ _ refl (further_other long inner s k joint t i b here B p q (sym Y ∙ r))
 
       module _ (r : y ≡ true) (j : ℕ) (full : Bool) (J : j ≡ separators_end s (i + 1)) (F : full ≡ (leb GRPCNT k || leb GRPGTCNT m.tokens)) (names' table' : List ℕ) where
         on : further long inner s k joint t ≡ and_then (token long inner s j full (places_of names m.places) m.tokens) (joins k b i t)
         on = rw (J, F, K.names_hold, K.tokens) (further_on long inner s k joint t i b here B p q (sym Y ∙ r))
 
-        module _ (a : ModelRead) (M : Meets (length s) (begun (m.places + 1) table m.code (4 * m.tokens + 3)) names' table' a (token long inner s j full (places_of names m.places) m.tokens)) where
-          pub next_refused : (f g : Fault) → a ≡ Refused f → g ≡ model_fault a → MeetsFurther (length s) (begun lo T n d) k names' table' (Unfit g) (further long inner s k joint t)
-          next_refused f g e h =
+        module _ (a : Result Model Fault) (M : Meets (length s) (begun (m.places + 1) table m.code (4 * m.tokens + 3)) names' table' a (token long inner s j full (places_of names m.places) m.tokens)) where
+          pub next_refused : (f : Fault) (r : Result Next Fault) → a ≡ Err f → r ≡ Err f → MeetsFurther (length s) (begun lo T n d) k names' table' r (further long inner s k joint t)
+          next_refused f r e h =
               let x : Reading Tokens = token long inner s j full (places_of names m.places) m.tokens in
               let w = refused_is (length s) (begun (m.places + 1) table m.code (4 * m.tokens + 3)) names' table' f x (rw e at M) in
-              rw (h, e) (unfit_meets (length s) (begun lo T n d) k names' table' _ f _ refl (on ∙ ap (λ (x : Reading Tokens). and_then x (joins k b i t)) w))
+              unfit_meets (length s) (begun lo T n d) k names' table' r f _ h (on ∙ ap (λ (x : Reading Tokens). and_then x (joins k b i t)) w)
 
-          pub next_joined : (u v : Model) (table'' : List ℕ) → a ≡ Read u → v ≡ join_model b i m u → table'' ≡ join_table b lo m u table' → MeetsFurther (length s) (begun lo T n d) k names' table'' (Joined b v) (further long inner s k joint t)
+          pub next_joined : (u v : Model) (table'' : List ℕ) → a ≡ Ok u → v ≡ join_model b i m u → table'' ≡ join_table b lo m u table' → MeetsFurther (length s) (begun lo T n d) k names' table'' (Ok (Joined b v)) (further long inner s k joint t)
           next_joined u v table'' e f h =
               let x : Reading Tokens = token long inner s j full (places_of names m.places) m.tokens in
               let w = read_got (length s) _ names' table' u x (rw e at M) in
@@ -236,22 +234,22 @@ module _ (long : ℕ) (inner : ℕ → List Place → ℕ → Reading Tokens) (s
       → (T : List ℕ) (n d : ℕ) (t₀ : Tokens) → Keeps (length s) (begun lo T n (d + 1)) 1 0 names₀ table₀ m₀ t₀ → (m.at ≤ length s) × (m.places ≤ m.tokens) × (m.tokens ≤ GRPGTCNT)
   so_in names table m k joint S T n d t₀ K₀ = omega (arith, (S.read T n d t₀ K₀).1)
 
-  module _ (names table : List ℕ) (m : Model) (k joint : ℕ) (S : So long inner s lo names₀ table₀ m₀ names table m k joint) (names' table' : List ℕ) (r : Next)
+  module _ (names table : List ℕ) (m : Model) (k joint : ℕ) (S : So long inner s lo names₀ table₀ m₀ names table m k joint) (names' table' : List ℕ) (r : Result Next Fault)
       (N : (T : List ℕ) (n d : ℕ) (t : Tokens) → Keeps (length s) (begun lo T n (d + 1)) k joint names table m t → MeetsFurther (length s) (begun lo T n d) k names' table' r (further long inner s k joint t))
       (T : List ℕ) (n d : ℕ) (t₀ : Tokens) (K₀ : Keeps (length s) (begun lo T n (d + 1)) 1 0 names₀ table₀ m₀ t₀) where
-    pub so_closed : (y : Reading Tokens) (u : Model) → y ≡ members long inner s GRPCNT 1 0 t₀ → r ≡ Closed u → Meets (length s) (begun lo T n d) names' table' (Read u) y
+    pub so_closed : (y : Reading Tokens) (u : Model) → y ≡ members long inner s GRPCNT 1 0 t₀ → r ≡ Ok (Closed u) → Meets (length s) (begun lo T n d) names' table' (Ok u) y
     so_closed y u q e =
         let w = S.read T n d t₀ K₀ in
         let x = closed_got _ (begun lo T n d) k names' table' u _ (rw e at (N T n d w.0 w.1)) in
         got_meets _ (begun lo T n d) names' table' _ u _ _ refl (q ∙ w.2 ∙ members_closed long inner s k joint w.0 S.few x.0 x.1) x.2
 
-    pub so_unfit : (y : Reading Tokens) (f : Fault) → y ≡ members long inner s GRPCNT 1 0 t₀ → r ≡ Unfit f → Meets (length s) (begun lo T n d) names' table' (Refused f) y
+    pub so_unfit : (y : Reading Tokens) (f : Fault) → y ≡ members long inner s GRPCNT 1 0 t₀ → r ≡ Err f → Meets (length s) (begun lo T n d) names' table' (Err f) y
     so_unfit y f q e =
         let w = S.read T n d t₀ K₀ in
         refused_meets (length s) (begun lo T n d) names' table' _ f.number f.at _ refl
         (q ∙ w.2 ∙ members_refused long inner s k joint w.0 S.few _ _ (unfit_is (length s) (begun lo T n d) k names' table' f _ (rw e at (N T n d w.0 w.1))))
 
-    pub so_joined : (b : ℕ) (u : Model) → r ≡ Joined b u → (k < GRPCNT) × So long inner s lo names₀ table₀ m₀ names' table' u (k + 1) b
+    pub so_joined : (b : ℕ) (u : Model) → r ≡ Ok (Joined b u) → (k < GRPCNT) × So long inner s lo names₀ table₀ m₀ names' table' u (k + 1) b
     so_joined b u e =
         let w = S.read T n d t₀ K₀ in
         let x = joined_got _ (begun lo T n d) k names' table' b u _ (rw e at (N T n d w.0 w.1)) in

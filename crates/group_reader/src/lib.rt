@@ -10,16 +10,14 @@ ghost use Rattle.content_tokens.specs.Meets.{Meets};
 ghost use Rattle.group_reader.specs.Further.{MeetsFurther, closed_table, closed_code};
 
 use connectors::Model;
-use content_tokens::ModelRead;
 use layout::{GRPCNT, GRPGTCNT, MODEL, NAMES};
-use text::Fault;
+use text::{Reading, Refusal};
 
 // What follows a content token: the group's end, or a connector and a further content token.
 #[derive(Drop)]
 pub enum Next {
     Closed(Model),
     Joined(u8, Model),
-    Unfit(Fault),
 }
 
 // The code where a group of k content tokens joined by c ends: that of an "&" group gets how many there are.
@@ -55,7 +53,7 @@ fn token_at(
     code: u16,
     names: &mut [u32; NAMES],
     table: &mut [u8; MODEL],
-) -> ModelRead
+) -> Reading<Model>
     requires at_in_bounds { (at ≤ length s.now) × (length s.now ≤ type_limit) }
     requires places_le_tokens { (places ≤ tokens) × (full ≡ false → tokens < GRPGTCNT) }
     ensures { Meets (length s.now) (begun (places + 1) table.old code (4 * tokens + 3)) names.new table.new result
@@ -70,18 +68,15 @@ fn token_at(
     }
     if b == b'(' {
         if full {
-            return content_tokens::refusal(6, at);
+            return Err(Refusal::Quantity.at(at));
         }
-        let r = group_at(long, s, at, levels, places, tokens + 1, code, names, table);
-        let ModelRead::Read(m) = r else {
-            return r;
-        };
-        return ModelRead::Read(connectors::with_occurrence(s, table, places + 1, m));
+        let m = group_at(long, s, at, levels, places, tokens + 1, code, names, table)?;
+        return Ok(connectors::with_occurrence(s, table, places + 1, m));
     }
     if b == b'[' || b == b'%' {
-        return content_tokens::refusal(5, at);
+        return Err(Refusal::LeftOut.at(at));
     }
-    content_tokens::refusal(4, at)
+    Err(Refusal::Malformed.at(at))
 }
 
 // What follows a content token, when m was read of the group, k content tokens joined by c (0: none yet).
@@ -96,7 +91,7 @@ fn next_at(
     m: Model,
     names: &mut [u32; NAMES],
     table: &mut [u8; MODEL],
-) -> Next
+) -> Reading<Next>
     requires at_in_bounds { (m.at ≤ length s.now) × (length s.now ≤ type_limit) }
     requires places_le_tokens { (m.places ≤ m.tokens) × (m.tokens ≤ GRPGTCNT) }
     ensures { (T : List ℕ) (n d : ℕ) (t : Tokens) → Keeps (length s.now) (begun lo T n (d + 1)) k c names.old table.old m t →
@@ -110,7 +105,7 @@ fn next_at(
     let code = m.code;
     if b == b')' {
         let part = m.part;
-        return Next::Closed(Model {
+        return Ok(Next::Closed(Model {
             at: i + 1,
             places: places,
             tokens: tokens,
@@ -118,21 +113,18 @@ fn next_at(
             code: closed_code(table, code, k, c),
             and: m.and,
             repeated: m.repeated,
-        });
+        }));
     }
     if b == b'%' {
-        return Next::Unfit(Fault { number: 5, at: i });
+        return Err(Refusal::LeftOut.at(i));
     }
     if !connectors::is_connector(b, c) {
-        return Next::Unfit(Fault { number: 4, at: i });
+        return Err(Refusal::Malformed.at(i));
     }
     let j = text::separators_end(s, i + 1);
     let full = is_full(k, tokens);
-    let r = token_at(long, s, j, levels, full, places, tokens, code, names, table);
-    let ModelRead::Read(u) = r else {
-        return Next::Unfit(content_tokens::fault_of(r));
-    };
-    Next::Joined(b, connectors::joined_by(table, b, i, lo, m, u))
+    let u = token_at(long, s, j, levels, full, places, tokens, code, names, table)?;
+    Ok(Next::Joined(b, connectors::joined_by(table, b, i, lo, m, u)))
 }
 
 // A group whose "(" stands at `at`; `levels` is how many group levels are left. What `names` and `table` hold behind the places read
@@ -148,17 +140,17 @@ pub fn group_at(
     code: u16,
     names: &mut [u32; NAMES],
     table: &mut [u8; MODEL],
-) -> ModelRead
+) -> Reading<Model>
     requires at_in_bounds { (at < length s.now) × (length s.now ≤ type_limit) }
     requires places_le_tokens { (places ≤ tokens) × (tokens ≤ GRPGTCNT) }
     ensures { Meets (length s.now) (begun (places + 1) table.old code (4 * tokens + 2)) names.new table.new result
         (group long levels s.now at (places_of names.old places) tokens) }
 {
     if levels == 0 {
-        return content_tokens::refusal(6, at);
+        return Err(Refusal::Quantity.at(at));
     }
     let i = text::separators_end(s, at + 1);
-    let r = token_at(
+    let mut m = token_at(
         long,
         s,
         i,
@@ -169,21 +161,13 @@ pub fn group_at(
         code,
         names,
         table,
-    );
-    let ModelRead::Read(first) = r else {
-        return r;
-    };
-    let mut m = first;
+    )?;
     let mut k: usize = 1;
     let mut c: u8 = 0;
     loop {
-        let n = next_at(long, s, levels - 1, places + 1, k, c, m, names, table);
-        match n {
+        match next_at(long, s, levels - 1, places + 1, k, c, m, names, table)? {
             Next::Closed(u) => {
-                return ModelRead::Read(u);
-            }
-            Next::Unfit(f) => {
-                return ModelRead::Refused(f);
+                return Ok(u);
             }
             Next::Joined(b, u) => {
                 m = u;
