@@ -1,5 +1,5 @@
 -- An attribute definition by the tests that the code makes.
-use Rattle.std.specs.Prelude.{ℕ, zero, suc, ◌+◌, ◌-◌, ◌≤◌, ◌<◌, ◌≡◌, Bool, true, false, List, [], ◌∷◌, ◌++◌, length, eqb}
+use Rattle.std.specs.Prelude.{ℕ, Result, Ok, Err, zero, suc, ◌+◌, ◌-◌, ◌≤◌, ◌<◌, ◌≡◌, Bool, true, false, List, [], ◌∷◌, ◌++◌, length, eqb}
 use Rattle.std.proofs.Math.Path.{refl}
 use Rattle.std.proofs.Common.{sym, ◌∙◌, ap, append-nil, append_assoc, arith}
 use borrow.Author.Tests.{eq-eqb, ne_eqb, lt-ltb, le-ltb, le-leb, lt-leb}
@@ -8,20 +8,13 @@ use Rattle.rules.specs.Reading.{Reading, refused, got}
 use Rattle.rules.specs.Attributes.{Part, DeclaredValue, cdata, number, name, tokens, Attribute, attribute_of}
 use Rattle.rules.specs.TypeFile.{gap, is_word, is_cut, CDATA, NUMBER, NAME, unfit, TokensEnd, token_group, tokens_of, attribute_name, ValueEnd, value_word, declared_value, DefaultEnd, default_value, definition}
 use Rattle.text.specs.declared.Fault.{Fault}
-use Rattle.text.specs.declared.Reached.{Reached}
-use Rattle.text.specs.declared.Reached.TheVariants as reached
 use Rattle.text.specs.Refusal.{refusal_of}
 use Rattle.text.specs.Words.{test_in}
-use Rattle.name_tokens.specs.declared.GroupRead.{GroupRead}
-use Rattle.name_tokens.specs.declared.GroupRead.TheVariants as groups
-use Rattle.name_tokens.specs.Tokens.{parts_of, group_fault, ReadAs, MeetsGroup, GroupIn}
+use Rattle.name_tokens.specs.Tokens.{parts_of, ReadAs}
 use Rattle.attribute_values.specs.Parts.{as_cdata, as_number, as_name, as_tokens}
-use Rattle.attribute_defaults.specs.declared.DefaultRead.{DefaultRead}
-use Rattle.attribute_defaults.specs.declared.DefaultRead.TheVariants as defaults
-use Rattle.attribute_defaults.specs.DefaultOf.{default_is, default_of, default_fault, DefaultFits}
-use Rattle.attribute_definitions.specs.declared.ValueRead.{ValueRead}
-use Rattle.attribute_definitions.specs.declared.ValueRead.TheVariants as values
-use Rattle.attribute_definitions.specs.Definition.{NameFits, word_is, word_of, WordFits, tokens_in, value_fault, ValueAs, MeetsValue, ValueFits, DefinedAs}
+use Rattle.attribute_defaults.specs.DefaultOf.{default_is}
+use Rattle.attribute_definitions.specs.declared.Declared.{Declared}
+use Rattle.attribute_definitions.specs.Definition.{word_is, word_of, WordFits, tokens_in, ValueAs, MeetsValue, ValueFits, DefinedAs}
 
 -- Names are read.
 
@@ -176,52 +169,17 @@ module _ (long : ℕ) (s : List ℕ) (xs : List Attribute) (from i : ℕ) where
           unfolding definition
           definition_got q = rw (a, definition, g, w, h, q)
 
--- Answers by cases, and the readings that they stand for.
-
-module _ (seen : List ℕ) (n : ℕ) (ts : List Part) (r : GroupRead) (x : Reading TokensEnd) (h : MeetsGroup seen n ts r x) where
-  pub group_got : {k e : ℕ} → r ≡ groups.Read k e → ReadAs seen n k e ts x
-  group_got q = rw q at h
-
-  pub group_refused : {f g : Fault} → r ≡ groups.Refused f → g ≡ group_fault r → x ≡ refusal_of g
-  group_refused q e = (rw q at h) ∙ ap refusal_of (sym (e ∙ ap group_fault q))
-
-module _ (long : ℕ) (s seen : List ℕ) (ts : List Part) (r : ValueRead) (x : Reading ValueEnd) (h : MeetsValue long s seen ts r x) where
-  pub value_got : {y k e : ℕ} → r ≡ values.Read y k e → ValueAs long s seen y k e ts x
-  value_got q = rw q at h
-
-  pub value_stopped : {f g : Fault} → r ≡ values.Refused f → g ≡ value_fault r → x ≡ refusal_of g
-  value_stopped q e = (rw q at h) ∙ ap refusal_of (sym (e ∙ ap value_fault q))
-
-module _ (r : DefaultRead) (x : Reading DefaultEnd) (h : default_of r ≡ x) where
-  pub default_got : {y n e : ℕ} → r ≡ defaults.Read y n e → x ≡ got (record { default = default_is y n; at = e })
-  default_got q = sym h ∙ ap default_of q
-
-  pub default_stopped : {f g : Fault} → r ≡ defaults.Refused f → g ≡ default_fault r → x ≡ refusal_of g
-  default_stopped q e = sym h ∙ ap default_of q ∙ ap refusal_of (sym (e ∙ ap default_fault q))
-
-pub group_within : {end at n k e : ℕ} {r : GroupRead} → GroupIn end at n r → r ≡ groups.Read k e → (at < e) × (e ≤ end) × (n < k) × (k ≤ n + GRPCNT)
-group_within h q = rw q at h
-
 pub parenthesis_in : (s : List ℕ) (i : ℕ) → byte_at s i ≡ GRPO → i < length s
 parenthesis_in s i h = test_in (λ b. eqb b GRPO) refl s i (eq-eqb _ _ h)
 
 -- A word that is read as declared value, and one that is refused.
-pub word_meets : (long : ℕ) (s seen : List ℕ) (m i : ℕ) (r : ValueRead) {x : Reading ValueEnd} → x ≡ value_word long s i → word_of r ≡ value_word long s i → WordFits (length s) i m r → MeetsValue long s seen (parts_of seen m) r x
-word_meets long s seen m i (values.Read y k e) q h w = word_value long s seen y k m e w.0 w.1 (q ∙ sym h)
-word_meets long s seen m i (values.Refused f) q h w = q ∙ sym h
+pub word_meets : (long : ℕ) (s seen : List ℕ) (m i : ℕ) (r : Result Declared Fault) {x : Reading ValueEnd} → x ≡ value_word long s i → word_of r ≡ value_word long s i → WordFits (length s) i m r → MeetsValue long s seen (parts_of seen m) r x
+word_meets long s seen m i (Ok v) q h w = word_value long s seen v.value v.tokens m v.at w.0 w.1 (q ∙ sym h)
+word_meets long s seen m i (Err f) q h w = q ∙ sym h
 
-pub word_within : {end : ℕ} (i m : ℕ) (r : ValueRead) → 2 ≤ end → WordFits end i m r → ValueFits end i m r
-word_within i m (values.Read y k e) l w = omega (arith, w, l)
-word_within i m (values.Refused f) l w = tt
-
-pub name_within : {end i n e : ℕ} {r : Reached} → NameFits end i n r → r ≡ reached.At e → (i ≤ e) × (e ≤ end) × (n < ATTCNT)
-name_within h q = rw q at h
-
-pub value_within : (m : ℕ) {end i x k e : ℕ} {r : ValueRead} → ValueFits end i m r → r ≡ values.Read x k e → (x ≤ end) × (i ≤ e) × (e ≤ end) × (k ≤ m + GRPCNT)
-value_within m h q = rw q at h
-
-pub default_within : {end i x n e : ℕ} {r : DefaultRead} → DefaultFits end i r → r ≡ defaults.Read x n e → (x + n ≤ end) × (i < e) × (e ≤ end)
-default_within h q = rw q at h
+pub word_within : {end : ℕ} (i m : ℕ) (r : Result Declared Fault) → 2 ≤ end → WordFits end i m r → ValueFits end i m r
+word_within i m (Ok v) l w = omega (arith, w, l)
+word_within i m (Err f) l w = tt
 
 -- A definition that was read, as a row.
 module _ (long : ℕ) (s : List ℕ) (xs : List Attribute) (from i : ℕ) where

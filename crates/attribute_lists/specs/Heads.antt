@@ -14,16 +14,12 @@ use Rattle.rules.specs.TypeFile as rules
 use Rattle.rules.specs.Elements.{element_at}
 use Rattle.rules.specs.Bytes.{element_limit}
 use Rattle.text.specs.declared.Fault.{Fault}
-use Rattle.text.specs.declared.Reached.{Reached}
-use Rattle.text.specs.declared.Reached.TheVariants as reached
-use Rattle.text.specs.Refusal.{refusal_of, fault_of}
+use Rattle.text.specs.Refusal.{refusal_of}
 use Rattle.layout.specs.Sizes.{LIST, LISTS}
 use Rattle.layout.specs.declared.ElementNo.{ElementNo}
 use Rattle.list_table.specs.Lists.{ListAt, Lists, Copied}
-use Rattle.list_definitions.specs.ListAs.{ListAs, MeetsList, ListIn}
-use Rattle.attribute_lists.specs.declared.ListedRead.{ListedRead}
-use Rattle.attribute_lists.specs.declared.ListedRead.TheVariants as answers
-use Rattle.attribute_lists.specs.Listed.{HeadRead, Headed, HeadedAs, any_in, listed_of, listed_fault, ListedFits, ListsAs, Again}
+use Rattle.list_definitions.specs.ListAs.{ListAs}
+use Rattle.attribute_lists.specs.Listed.{HeadRead, Headed, HeadedAs, any_in, ListsAs, Again}
 use Rattle.attribute_lists.specs.Lookup.{any_found}
 use Rattle.rules_laws.specs.Holds.{got_one}
 
@@ -259,28 +255,3 @@ module _ {long : ℕ} {s heads : List ℕ} {es : List rules.Element} (h : Headed
           by_head : Dec (get_or heads k 0 ≡ 0) → is_listed h.lists (k + 1) ≡ false
           by_head (yes z) = h.headed.has k (omega (arith, l, few)) ∙ ap not (eq-eqb _ _ z)
           by_head (no z) = absurd (true≢false (sym (any_found heads k (length es) l z) ∙ none))
-
--- Answers by cases.
-
-pub listed_is : {r : ListedRead} {x : Reading Listed} {k : ElementNo} {e : ℕ} → listed_of r ≡ x → r ≡ answers.Read k e → x ≡ got (record { element = k.0; at = e })
-listed_is h q = sym h ∙ ap listed_of q
-
-pub listed_refused : {r : ListedRead} {x : Reading Listed} {f g : Fault} → listed_of r ≡ x → r ≡ answers.Refused f → g ≡ listed_fault r → x ≡ refusal_of g
-listed_refused h q e = sym h ∙ ap listed_of q ∙ ap refusal_of (sym (e ∙ ap listed_fault q))
-
-pub listed_within : (heads : List ℕ) {end i count e : ℕ} {k : ElementNo} {r : ListedRead} → ListedFits end i count heads r → r ≡ answers.Read k e
-    → (1 ≤ k.0) × (k.0 ≤ count) × (i ≤ e) × (e ≤ end) × (get_or heads (k.0 - 1) 0 ≡ 0)
-listed_within heads h q = rw q at h
-
-module _ (long : ℕ) (s list : List ℕ) (r : Reached) (x : Reading ListEnd) (h : MeetsList long s list r x) where
-  pub defined_got : {e : ℕ} → r ≡ reached.At e → ListAs long s list e x
-  defined_got q = rw q at h
-
-  pub defined_refused : {f g : Fault} → r ≡ reached.Refused f → g ≡ fault_of r → x ≡ refusal_of g
-  defined_refused q e = (rw q at h) ∙ ap refusal_of (sym (e ∙ ap fault_of q))
-
-  pub defined_not : {f : Fault} → r ≡ reached.Refused f → x ≡ refusal_of f
-  defined_not q = rw q at h
-
-pub defined_within : {end from e : ℕ} {r : Reached} → ListIn end from r → r ≡ reached.At e → (from < e) × (e ≤ end)
-defined_within h q = rw q at h

@@ -1,5 +1,5 @@
 -- Where the lists of a type stand, and what the answers of the code stand for.
-use Rattle.std.specs.Prelude.{ℕ, zero, suc, ◌+◌, ◌-◌, ◌*◌, ◌≤◌, ◌<◌, ◌≡◌, Bool, false, not, ◌||◌, ◌⊎◌, List, length, get_or, eqb}
+use Rattle.std.specs.Prelude.{ℕ, Result, Ok, Err, zero, suc, ◌+◌, ◌-◌, ◌*◌, ◌≤◌, ◌<◌, ◌≡◌, Bool, false, not, ◌||◌, ◌⊎◌, List, length, get_or, eqb}
 use Rattle.rules.specs.Reading.{Reading, got}
 use Rattle.rules.specs.Attributes.{Attribute, AttList}
 use Rattle.rules.specs.TypeFile.{list_from, is_listed, Listed, Declarations, attributes_of}
@@ -7,13 +7,10 @@ use Rattle.rules.specs.TypeFile as rules
 use Rattle.rules.specs.Elements.{element_at}
 use Rattle.rules.specs.Bytes.{element_limit}
 use Rattle.text.specs.declared.Fault.{Fault}
-use Rattle.text.specs.declared.Reached.{Reached}
-use Rattle.text.specs.declared.Reached.TheVariants as reached
 use Rattle.text.specs.Refusal.{refusal_of}
 use Rattle.layout.specs.Sizes.{LIST}
 use Rattle.list_table.specs.Lists.{ListAt}
-use Rattle.attribute_lists.specs.declared.ListedRead.{ListedRead}
-use Rattle.attribute_lists.specs.declared.ListedRead.TheVariants as listed
+use Rattle.attribute_lists.specs.declared.Head.{Head}
 
 -- The k-th element, from 0, has a list where its head is not 0: the list was read from there on.
 pub record HeadRead (long : ℕ) (s : List ℕ) (from : ℕ) (ls : List AttList) (k : ℕ) : Type 0 where
@@ -38,18 +35,14 @@ any_in heads zero = false
 any_in heads (suc n) = any_in heads n || not (eqb (get_or heads n 0) 0)
 
 -- The element of a list.
-abbrev pub listed_of : ListedRead → Reading Listed
-listed_of (listed.Read k e) = got (record { element = k.0; at = e })
-listed_of (listed.Refused f) = refusal_of f
-
-abbrev pub listed_fault : ListedRead → Fault
-listed_fault (listed.Read k e) = record { number = 0; at = 0 }
-listed_fault (listed.Refused f) = f
+abbrev pub listed_of : Result Head Fault → Reading Listed
+listed_of (Ok h) = got (record { element = h.element.0; at = h.at })
+listed_of (Err f) = refusal_of f
 
 -- Whatever the tables hold: the element has no head yet.
-abbrev pub ListedFits : (end i count : ℕ) → (heads : List ℕ) → ListedRead → Type 0
-ListedFits end i count heads (listed.Read k e) = (1 ≤ k.0) × (k.0 ≤ count) × (i ≤ e) × (e ≤ end) × (get_or heads (k.0 - 1) 0 ≡ 0)
-ListedFits end i count heads (listed.Refused f) = Unit {0}
+abbrev pub ListedFits : (end i count : ℕ) → (heads : List ℕ) → Result Head Fault → Type 0
+ListedFits end i count heads (Ok h) = (1 ≤ h.element.0) × (h.element.0 ≤ count) × (i ≤ h.at) × (h.at ≤ end) × (get_or heads (h.element.0 - 1) 0 ≡ 0)
+ListedFits end i count heads (Err f) = Unit {0}
 
 -- A list that was read: it has a head then.
 pub record ListsAs (long : ℕ) (s heads : List ℕ) (es : List rules.Element) (e : ℕ) (x : Reading Declarations) : Type 0 where
@@ -57,9 +50,9 @@ pub record ListsAs (long : ℕ) (s heads : List ℕ) (es : List rules.Element) (
   pub read : x ≡ got (record { elements = es; lists = lists; at = e })
   pub headed : Headed long s heads lists
 
-abbrev pub MeetsLists : ℕ → (s heads : List ℕ) → List rules.Element → Reached → Reading Declarations → Type 0
-MeetsLists long s heads es (reached.At e) x = ListsAs long s heads es e x
-MeetsLists long s heads es (reached.Refused f) x = x ≡ refusal_of f
+abbrev pub MeetsLists : ℕ → (s heads : List ℕ) → List rules.Element → Result ℕ Fault → Reading Declarations → Type 0
+MeetsLists long s heads es (Ok e) x = ListsAs long s heads es e x
+MeetsLists long s heads es (Err f) x = x ≡ refusal_of f
 
 -- The list of the k-th element was read again from its head: it is in the table then, and all other lists are what they were.
 pub record Again (long : ℕ) (s : List ℕ) (from k : ℕ) (before after : List ℕ) : Type 0 where

@@ -12,26 +12,16 @@ ghost use Rattle.layout.specs.Sizes.{LIST, LISTS};
 ghost use Rattle.element_names.specs.Names.{Recorded, name_at};
 ghost use Rattle.list_table.specs.Lists.{ListAt};
 ghost use Rattle.list_definitions.specs.ListAs.{ListIn};
-ghost use Rattle.attribute_lists.specs.Listed.{Headed, any_in, listed_of, ListedFits, listed_fault, MeetsLists, Again};
+ghost use Rattle.attribute_lists.specs.Listed.{Headed, any_in, listed_of, ListedFits, MeetsLists, Again};
 
 use layout::{ELEMENTS, ElementNo, LIST, RECORD, RECORDS};
-use text::{Fault, Reached};
+use text::{Reading, Refusal};
 
 // The element of a list, and where its name ends.
-#[derive(Drop)]
-pub enum ListedRead {
-    Read(ElementNo, usize),
-    Refused(Fault),
-}
-
-// The refusal of an answer that is one.
-fn fault_of_listed(r: ListedRead) -> Fault
-    ensures { result ≡ listed_fault r }
-{
-    match r {
-        ListedRead::Read(_, _) => Fault { number: 0, at: 0 },
-        ListedRead::Refused(f) => f,
-    }
+#[derive(Clone, Copy, Debug, PartialEq, Eq)]
+pub struct Head {
+    pub element: ElementNo,
+    pub at: usize,
 }
 
 // Whether the k-th element, from 0, has the name of this size at `at`, folded.
@@ -69,7 +59,7 @@ fn listed_at(
     elements: &[u32; RECORDS],
     count: usize,
     heads: &[u16; ELEMENTS],
-) -> ListedRead
+) -> Reading<Head>
     requires { (i ≤ length s.now) × (length s.now ≤ type_limit) × (count ≤ element_limit) }
     ensures { ((es : List rules.Element) (ls : List AttList) → length es ≡ count → Recorded elements.now es → Headed long s.now heads.now ls →
         listed_of result ≡ listed_element long s.now es ls i) × ListedFits (length s.now) i count heads.now result }
@@ -77,22 +67,25 @@ fn listed_at(
     let b = text::byte(s, i);
     if !text::is_letter(b) {
         if b == b'(' {
-            return ListedRead::Refused(Fault { number: 5, at: i });
+            return Err(Refusal::LeftOut.at(i));
         }
-        return ListedRead::Refused(gaps::unfit_at(s, i));
+        return Err(gaps::unfit_at(s, i));
     }
     let e = text::name_end(s, i);
     if long < e - i {
-        return ListedRead::Refused(Fault { number: 3, at: i });
+        return Err(Refusal::NameTooLong.at(i));
     }
     let k = element_of(s, elements, count, i, e - i);
     if k == 0 {
-        return ListedRead::Refused(Fault { number: 10, at: i });
+        return Err(Refusal::Undeclared.at(i));
     }
     if heads[k - 1] != 0 {
-        return ListedRead::Refused(Fault { number: 20, at: i });
+        return Err(Refusal::Attribute.at(i));
     }
-    ListedRead::Read(ElementNo(k), e)
+    Ok(Head {
+        element: ElementNo(k),
+        at: e,
+    })
 }
 
 // There is a head for each element.
@@ -109,28 +102,19 @@ pub fn list_at(
     elements: &[u32; RECORDS],
     count: usize,
     heads: &mut [u16; ELEMENTS],
-) -> Reached
+) -> Reading<usize>
     requires { (3 ≤ at) × (at ≤ length s.now) × (length s.now ≤ type_limit) × (count ≤ element_limit) }
     ensures { ((es : List rules.Element) (ls : List AttList) → length es ≡ count → Recorded elements.now es → Headed long s.now heads.old ls →
         MeetsLists long s.now heads.new es result (attribute_list long s.now at es ls)) × ListIn (length s.now) at result }
 {
-    let g = gaps::gap_end(s, at);
-    let Reached::At(i) = g else {
-        return Reached::Refused(text::fault_of(g));
-    };
-    let l = listed_at(long, s, i, elements, count, heads);
-    let ListedRead::Read(k, from) = l else {
-        return Reached::Refused(fault_of_listed(l));
-    };
+    let i = gaps::gap_end(s, at)?;
+    let l = listed_at(long, s, i, elements, count, heads)?;
     let mut list = [0u16; LIST];
-    let r = list_definitions::definitions_at(long, s, from, &mut list);
-    let Reached::At(e) = r else {
-        return Reached::Refused(text::fault_of(r));
-    };
+    let e = list_definitions::definitions_at(long, s, l.at, &mut list)?;
     whole(*heads);
-    let h = k.0 - 1;
-    heads[h] = from as u16;
-    Reached::At(e)
+    let h = l.element.0 - 1;
+    heads[h] = l.at as u16;
+    Ok(e)
 }
 
 // Whether one of the first n elements has a list.
@@ -161,10 +145,9 @@ fn read_again(long: usize, s: &[u8], from: usize, k: usize, lists: &mut [u16])
     }
     let mut list = [0u16; LIST];
     let r = list_definitions::definitions_at(long, s, from, &mut list);
-    let Reached::At(_) = r else {
-        return;
-    };
-    list_table::put_list(lists, k, &list);
+    if r.is_ok() {
+        list_table::put_list(lists, k, &list);
+    }
 }
 
 // Fills the table, which is all 0, with the lists of a type of n elements, each read again from its head on.

@@ -1,5 +1,5 @@
 -- The attributes that a start tag gives as the code marks them: of each attribute of the element two numbers.
-use Rattle.std.specs.Prelude.{ℕ, ◌+◌, ◌*◌, ◌<◌, ◌≡◌, List, [], ◌∷◌, length, get_or}
+use Rattle.std.specs.Prelude.{ℕ, Result, Ok, Err, ◌+◌, ◌*◌, ◌<◌, ◌≡◌, List, [], ◌∷◌, length, get_or}
 use Rattle.rules.specs.Reading.{Reading, got}
 use Rattle.rules.specs.Attributes.{Attribute, attribute_at}
 use Rattle.rules.specs.Document.{Written}
@@ -16,7 +16,7 @@ MarkedAs marks k (w ∷ ws) = (get_or marks (2 * k) 0 ≡ w.quote + 1) × (get_o
 abbrev pub Marked : (s : List ℕ) → List Attribute → (d : List ℕ) → List Written → (marks : List ℕ) → Type 0
 Marked s xs d ws marks = (k : ℕ) → k < length xs → MarkedAs marks k (given_for s (attribute_at xs k) d ws)
 
--- What the code says of a tag that gives ws is what the rules say, x: number 0 for none, and then its attributes are marked.
-pub record Attributed (s : List ℕ) (xs : List Attribute) (d : List ℕ) (ws : List Written) (marks : List ℕ) (f : Fault) (x : Reading (Unit {0})) : Type 0 where
-  pub passes : f.number ≡ 0 → (x ≡ got tt) × Marked s xs d ws marks
-  pub refuses : (f.number ≡ 0 → ⊥) → x ≡ refusal_of f
+-- What the code says of a tag that gives ws is what the rules say, x; where they pass, its attributes are marked.
+abbrev pub Attributed : (s : List ℕ) → List Attribute → (d : List ℕ) → List Written → (marks : List ℕ) → Result (Unit {0}) Fault → Reading (Unit {0}) → Type 0
+Attributed s xs d ws marks (Ok _) x = (x ≡ got tt) × Marked s xs d ws marks
+Attributed s xs d ws marks (Err f) x = x ≡ refusal_of f

@@ -1,8 +1,8 @@
 -- One attribute after the other: what is known behind the first k, and what one more gives.
 use Prim.Native.Nat.{ℕ, zero, suc, ◌+◌, ◌*◌, ◌-◌, ◌≤◌, ◌<◌}
-use Rattle.std.specs.Prelude.{◌≡◌, true, false, length, get_or, eqb}
+use Rattle.std.specs.Prelude.{◌≡◌, Result, Ok, Err, Option, Some, None, length, get_or}
 use Rattle.std.proofs.Math.Path.{refl, ap}
-use Rattle.std.proofs.Common.{sym, ◌∙◌, subst, add-one, eq-eqb, ne_eqb}
+use Rattle.std.proofs.Common.{sym, ◌∙◌, subst, add-one}
 use mathlib.Core.List.{List, [], ◌∷◌, ◌++◌}
 use Rattle.std.proofs.Math.Decide.{ℕ_discrete}
 use native.Mathlib.Omega.{arith}
@@ -10,6 +10,9 @@ use Rattle.rules.specs.Reading.{Reading, refused, got}
 use Rattle.rules.specs.Attributes.{Attribute}
 use Rattle.rules.specs.Document as rules
 use Rattle.rules.specs.Given.{all_listed, all_fit, given_for}
+use Rattle.text.specs.declared.Refusal.{Refusal}
+use Rattle.text.specs.declared.Refusal.TheVariants as refusal
+use Rattle.text.specs.Refusal.{fault_at}
 use Rattle.list_table.specs.Lists.{ListAt}
 use Rattle.tag_attributes.specs.declared.Written.{Written}
 use Rattle.tag_attributes.specs.Given.{written_as, kept_in, kept_of, WrittenIn, GivenIn}
@@ -18,66 +21,44 @@ use Rattle.attribute_marks.specs.Marks.{Marked}
 use Rattle.attribute_marks.specs.Each.{Marks, Given, unlisted, unfitting, fitting}
 use Rattle.attribute_marks.specs.Listed.{listed_refused, listed_more, listed_ends, fit_refused, fit_more, fit_ends}
 
--- The first misfit as it is remembered: the place behind its quote, or 0 for none.
-abbrev misfit_at : ℕ → Reading (Unit {0})
-misfit_at m = elim (eqb m 0) [ true ↦ got tt | false ↦ refused 22 (m - 1) ]
+-- The first misfit as it is remembered: where its literal begins.
+abbrev misfit_at : Option ℕ → Reading (Unit {0})
+misfit_at None = got tt
+misfit_at (Some q) = refused 22 q
 
-misfit_none : (m : ℕ) → m ≡ 0 → misfit_at m ≡ got tt
-misfit_none m e = rw (misfit_at, eq-eqb m 0 e)
-
-misfit_some : (m : ℕ) → (m ≡ 0 → ⊥) → misfit_at m ≡ refused 22 (m - 1)
-misfit_some m e = rw (misfit_at, ne_eqb m 0 e)
-
--- What is remembered behind one more, whose quote stands at q and whose answer is r.
-pub data Next (m r q m' : ℕ) : Type 0 where
-  right : (r ≡ 22 → ⊥) → m' ≡ m → Next m r q m'
-  later : (m ≡ 0 → ⊥) → m' ≡ m → Next m r q m'
-  first : r ≡ 22 → m ≡ 0 → m' ≡ q + 1 → Next m r q m'
+-- What is remembered behind one more, whose quote stands at q and which does not fit.
+abbrev pub first_of : Option ℕ → ℕ → Option ℕ
+first_of None q = Some q
+first_of (Some p) q = Some p
 
 module _ (long : ℕ) (s : List ℕ) (xs : List Attribute) (d : List ℕ) (vs : List rules.Written) (w : rules.Written) (marks : List ℕ) where
-  fit_later : (m : ℕ) → all_fit long s xs d vs ≡ misfit_at m → (m ≡ 0 → ⊥) → all_fit long s xs d (vs ++ w ∷ []) ≡ misfit_at m
-  fit_later m e n = fit_refused long s xs d vs (w ∷ []) (e ∙ misfit_some m n) ∙ sym (misfit_some m n)
+  -- One more that fits, and one that does not: the first misfit is remembered.
+  fit_right : (m : Option ℕ) → all_fit long s xs d vs ≡ misfit_at m → Marks long s xs d vs w marks (Ok tt) → all_fit long s xs d (vs ++ w ∷ []) ≡ misfit_at m
+  fit_right None e (fitting n k f) = fit_more long s xs d vs w e f
+  fit_right (Some q) e (fitting n k f) = fit_refused long s xs d vs (w ∷ []) e
 
-  fit_first : all_fit long s xs d vs ≡ got tt → (r : ℕ) → Marks long s xs d vs w marks r → r ≡ 22 → all_fit long s xs d (vs ++ w ∷ []) ≡ misfit_at (w.quote + 1)
-  fit_first e r (unlisted n) z = absurd (omega (arith, z))
-  fit_first e r (unfitting n k f) z =
-      let p : w.quote ≡ w.quote + 1 - 1 = omega arith in
-      fit_ends long s xs d vs w e f ∙ ap (refused 22) p ∙ sym (misfit_some (w.quote + 1) (λ x. omega (arith, x)))
-  fit_first e r (fitting n k f) z = absurd (omega (arith, z))
+  fit_wrong : (m : Option ℕ) → all_fit long s xs d vs ≡ misfit_at m → Marks long s xs d vs w marks (Err refusal.Value) → all_fit long s xs d (vs ++ w ∷ []) ≡ misfit_at (first_of m w.quote)
+  fit_wrong None e (unfitting n k f) = fit_ends long s xs d vs w e f
+  fit_wrong (Some q) e (unfitting n k f) = fit_refused long s xs d vs (w ∷ []) e
 
-  fit_right : all_fit long s xs d vs ≡ got tt → (r : ℕ) → Marks long s xs d vs w marks r → (r ≡ 20 → ⊥) → (r ≡ 22 → ⊥) → all_fit long s xs d (vs ++ w ∷ []) ≡ got tt
-  fit_right e r (unlisted n) y z = absurd (y refl)
-  fit_right e r (unfitting n k f) y z = absurd (z refl)
-  fit_right e r (fitting n k f) y z = fit_more long s xs d vs w e f
+  listed_right : all_listed s xs d [] vs ≡ got tt → Marks long s xs d vs w marks (Ok tt) → (all_listed s xs d [] (vs ++ w ∷ []) ≡ got tt) × Marked s xs d (vs ++ w ∷ []) marks
+  listed_right e (fitting n k f) = (listed_more s xs d vs w e n, k)
 
-  -- The first misfit is remembered.
-  fit_turn : (m r m' : ℕ) → all_fit long s xs d vs ≡ misfit_at m → Marks long s xs d vs w marks r → (r ≡ 20 → ⊥) → Next m r w.quote m' → all_fit long s xs d (vs ++ w ∷ []) ≡ misfit_at m'
-  fit_turn m r m' e k y (later n q) = fit_later m e n ∙ ap misfit_at (sym q)
-  fit_turn m r m' e k y (first z n q) = fit_first (e ∙ misfit_none m n) r k z ∙ ap misfit_at (sym q)
-  fit_turn m r m' e k y (right z q) = by_zero (ℕ_discrete m 0) ∙ ap misfit_at (sym q)
-    where
-      by_zero : Dec (m ≡ 0) → all_fit long s xs d (vs ++ w ∷ []) ≡ misfit_at m
-      by_zero (yes n) = fit_right (e ∙ misfit_none m n) r k y z ∙ sym (misfit_none m n)
-      by_zero (no n) = fit_later m e n
+  listed_wrong : all_listed s xs d [] vs ≡ got tt → Marks long s xs d vs w marks (Err refusal.Value) → (all_listed s xs d [] (vs ++ w ∷ []) ≡ got tt) × Marked s xs d (vs ++ w ∷ []) marks
+  listed_wrong e (unfitting n k f) = (listed_more s xs d vs w e n, k)
 
-  listed_turn : (r : ℕ) → all_listed s xs d [] vs ≡ got tt → Marks long s xs d vs w marks r → (r ≡ 20 → ⊥) → (all_listed s xs d [] (vs ++ w ∷ []) ≡ got tt) × Marked s xs d (vs ++ w ∷ []) marks
-  listed_turn r e (unlisted n) y = absurd (y refl)
-  listed_turn r e (unfitting n k f) y = (listed_more s xs d vs w e n, k)
-  listed_turn r e (fitting n k f) y = (listed_more s xs d vs w e n, k)
-
-  listed_stop : (r : ℕ) → all_listed s xs d [] vs ≡ got tt → Marks long s xs d vs w marks r → r ≡ 20 → all_listed s xs d [] (vs ++ w ∷ []) ≡ refused 20 w.at
-  listed_stop r e (unlisted n) y = listed_ends s xs d vs w e n
-  listed_stop r e (unfitting n k f) y = absurd (omega (arith, y))
-  listed_stop r e (fitting n k f) y = absurd (omega (arith, y))
+  listed_stop : (r : Refusal) → (r ≡ refusal.Value → ⊥) → all_listed s xs d [] vs ≡ got tt → Marks long s xs d vs w marks (Err r) → all_listed s xs d [] (vs ++ w ∷ []) ≡ refused 20 w.at
+  listed_stop r y e (unlisted n) = listed_ends s xs d vs w e n
+  listed_stop r y e (unfitting n k f) = absurd (y refl)
 
 -- The first k of those that are kept are listed and marked, and the first misfit among them is remembered.
-record Goes (long : ℕ) (s : List ℕ) (xs : List Attribute) (d g : List ℕ) (k : ℕ) (marks : List ℕ) (misfit : ℕ) : Type 0 where
+record Goes (long : ℕ) (s : List ℕ) (xs : List Attribute) (d g : List ℕ) (k : ℕ) (marks : List ℕ) (misfit : Option ℕ) : Type 0 where
   listed : all_listed s xs d [] (kept_of g k) ≡ got tt
   marked : Marked s xs d (kept_of g k) marks
   fit : all_fit long s xs d (kept_of g k) ≡ misfit_at misfit
 
 -- So under each list that the table has at b, if at first nothing was marked.
-pub record Going (long : ℕ) (s lists : List ℕ) (b : ℕ) (d g before : List ℕ) (k : ℕ) (marks : List ℕ) (misfit : ℕ) : Type 0 where
+pub record Going (long : ℕ) (s lists : List ℕ) (b : ℕ) (d g before : List ℕ) (k : ℕ) (marks : List ℕ) (misfit : Option ℕ) : Type 0 where
   goes : (xs : List Attribute) → ListAt long s lists b xs → NamesDiffer s xs → ((j : ℕ) → j < length xs → get_or before (2 * j) 0 ≡ 0) → Goes long s xs d g k marks misfit
 
 -- The k-th that is kept, as it is read.
@@ -100,43 +81,60 @@ module _ (s : List ℕ) (xs : List Attribute) (d g : List ℕ) (k p : ℕ) (e : 
       by_last (no q) ih = listed_refused s xs d (kept_of g n) (written_as (kept_in g n) ∷ []) (ih (omega (arith, q)))
 
 module _ (long : ℕ) (s lists : List ℕ) (b : ℕ) (d g before : List ℕ) where
-  pub going_first : Going long s lists b d g before 0 before 0
+  pub going_first : Going long s lists b d g before 0 before None
   unfolding kept_of all_listed all_fit given_for
   going_first = record { goes = λ xs a n z. record { listed = refl; marked = λ k h. z k h; fit = refl } }
 
-  module _ (k : ℕ) (marks : List ℕ) (misfit : ℕ) (f : Going long s lists b d g before k marks misfit) (w : Written) (e : w ≡ kept_in g k) (after : List ℕ) (r : ℕ)
-      (m : (xs : List Attribute) (vs : List rules.Written) → ListAt long s lists b xs → NamesDiffer s xs → Marked s xs d vs marks → Marks long s xs d vs (written_as w) after r) where
+  module _ (k : ℕ) (marks : List ℕ) (misfit : Option ℕ) (f : Going long s lists b d g before k marks misfit) (w : Written) (e : w ≡ kept_in g k) (after : List ℕ) where
     snoc : kept_of g k ++ written_as w ∷ [] ≡ kept_of g (k + 1)
     snoc = ap (λ (x : Written). kept_of g k ++ written_as x ∷ []) e ∙ sym (kept_more g k)
 
-    pub going_turn : (r ≡ 20 → ⊥) → (next : ℕ) → Next misfit r w.quote next → Going long s lists b d g before (k + 1) after next
-    going_turn y next x = record { goes = goes }
+    -- What `mark` says of one more, whatever was marked before.
+    abbrev pub Says : Result (Unit {0}) Refusal → Type 0
+    Says r = (xs : List Attribute) (vs : List rules.Written) → ListAt long s lists b xs → NamesDiffer s xs → Marked s xs d vs marks → Marks long s xs d vs (written_as w) after r
+
+    pub going_right : Says (Ok tt) → Going long s lists b d g before (k + 1) after misfit
+    going_right m = record { goes = goes }
       where
-        goes : (xs : List Attribute) → ListAt long s lists b xs → NamesDiffer s xs → ((j : ℕ) → j < length xs → get_or before (2 * j) 0 ≡ 0) → Goes long s xs d g (k + 1) after next
+        goes : (xs : List Attribute) → ListAt long s lists b xs → NamesDiffer s xs → ((j : ℕ) → j < length xs → get_or before (2 * j) 0 ≡ 0) → Goes long s xs d g (k + 1) after misfit
         goes xs a n z =
             let o = f.goes xs a n z in
             let made = m xs (kept_of g k) a n o.marked in
-            let (l, t) = listed_turn long s xs d (kept_of g k) (written_as w) after r o.listed made y in
+            let (l, t) = listed_right long s xs d (kept_of g k) (written_as w) after o.listed made in
             record {
               listed = rw (← snoc) l;
               marked = subst (λ (vs : List rules.Written). Marked s xs d vs after) snoc t;
-              fit = rw (← snoc) (fit_turn long s xs d (kept_of g k) (written_as w) after misfit r next o.fit made y x);
+              fit = rw (← snoc) (fit_right long s xs d (kept_of g k) (written_as w) after misfit o.fit made);
             }
 
-    pub going_stop : (n : ℕ) → k < n → r ≡ 20 → (xs : List Attribute) → ListAt long s lists b xs → NamesDiffer s xs → ((j : ℕ) → j < length xs → get_or before (2 * j) 0 ≡ 0)
-        → Given long s xs d (kept_of g n) after (record { number = 20; at = w.name })
-    going_stop n h y xs a u z =
+    pub going_wrong : Says (Err refusal.Value) → Going long s lists b d g before (k + 1) after (first_of misfit w.quote)
+    going_wrong m = record { goes = goes }
+      where
+        goes : (xs : List Attribute) → ListAt long s lists b xs → NamesDiffer s xs → ((j : ℕ) → j < length xs → get_or before (2 * j) 0 ≡ 0) → Goes long s xs d g (k + 1) after (first_of misfit w.quote)
+        goes xs a n z =
+            let o = f.goes xs a n z in
+            let made = m xs (kept_of g k) a n o.marked in
+            let (l, t) = listed_wrong long s xs d (kept_of g k) (written_as w) after o.listed made in
+            record {
+              listed = rw (← snoc) l;
+              marked = subst (λ (vs : List rules.Written). Marked s xs d vs after) snoc t;
+              fit = rw (← snoc) (fit_wrong long s xs d (kept_of g k) (written_as w) after misfit o.fit made);
+            }
+
+    pub going_stop : (r : Refusal) → (r ≡ refusal.Value → ⊥) → Says (Err r) → (n : ℕ) → k < n → (xs : List Attribute) → ListAt long s lists b xs → NamesDiffer s xs → ((j : ℕ) → j < length xs → get_or before (2 * j) 0 ≡ 0)
+        → Given long s xs d (kept_of g n) after (Err (fault_at refusal.Attribute w.name))
+    going_stop r y m n h xs a u z =
         let o = f.goes xs a u z in
-        let l = listed_stop long s xs d (kept_of g k) (written_as w) after r o.listed (m xs (kept_of g k) a u o.marked) y in
+        let l = listed_stop long s xs d (kept_of g k) (written_as w) after r y o.listed (m xs (kept_of g k) a u o.marked) in
         unlisted w.name (listed_on s xs d g (k + 1) w.name (rw (← snoc) l) n (omega arith))
 
-  module _ (k n : ℕ) (e : k ≡ n) (marks : List ℕ) (misfit : ℕ) (f : Going long s lists b d g before k marks misfit) (xs : List Attribute) (a : ListAt long s lists b xs) (u : NamesDiffer s xs) (z : (j : ℕ) → j < length xs → get_or before (2 * j) 0 ≡ 0) where
-    pub going_misfit : (misfit ≡ 0 → ⊥) → Given long s xs d (kept_of g n) marks (record { number = 22; at = misfit - 1 })
-    going_misfit y =
+  module _ (k n : ℕ) (e : k ≡ n) (marks : List ℕ) (xs : List Attribute) (a : ListAt long s lists b xs) (u : NamesDiffer s xs) (z : (j : ℕ) → j < length xs → get_or before (2 * j) 0 ≡ 0) where
+    pub going_misfit : (q : ℕ) → Going long s lists b d g before k marks (Some q) → Given long s xs d (kept_of g n) marks (Err (fault_at refusal.Value q))
+    going_misfit q f =
         let o = f.goes xs a u z in
-        unfitting (misfit - 1) (rw (← e) o.listed) (rw (← e) (o.fit ∙ misfit_some misfit y))
+        unfitting q (rw (← e) o.listed) (rw (← e) o.fit)
 
-    pub going_end : misfit ≡ 0 → Given long s xs d (kept_of g n) marks (record { number = 0; at = 0 })
-    going_end y =
+    pub going_end : Going long s lists b d g before k marks None → Given long s xs d (kept_of g n) marks (Ok tt)
+    going_end f =
         let o = f.goes xs a u z in
-        fitting (rw (← e) o.listed) (rw (← e) (o.fit ∙ misfit_none misfit y)) (subst (λ (i : ℕ). Marked s xs d (kept_of g i) marks) e o.marked)
+        fitting (rw (← e) o.listed) (rw (← e) o.fit) (subst (λ (i : ℕ). Marked s xs d (kept_of g i) marks) e o.marked)

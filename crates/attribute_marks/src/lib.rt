@@ -19,7 +19,7 @@ ghost use Rattle.attribute_marks.specs.Each.{Marks, Given};
 
 use layout::{ElementNo, GIVEN, MARKS};
 use tag_attributes::Written;
-use text::Fault;
+use text::{Reading, Refusal};
 
 // The marks have room for so many numbers.
 fn whole(marks: [u16; MARKS])
@@ -39,7 +39,7 @@ fn clear(marks: &mut [u16; MARKS], n: usize)
     }
 }
 
-// An attribute of the element e as a tag gives it: 20 if it is not declared or marked already, 22 if its value does not fit, else 0.
+// An attribute of the element e as a tag gives it: 20 if it is not declared or marked already, 22 if its value does not fit.
 fn mark(
     long: usize,
     s: &[u8],
@@ -48,18 +48,18 @@ fn mark(
     e: ElementNo,
     w: Written,
     marks: &mut [u16; MARKS],
-) -> u32
+) -> Result<(), Refusal>
     requires { (1 ≤ e.0) × (e.0 ≤ element_limit) × (length s.now ≤ type_limit) × (length d.now ≤ document_limit) × WrittenIn (length d.now) w }
     ensures { (xs : List Attribute) (before : List rules.Written) → ListAt long s.now lists.now (LIST * (e.0 - 1)) xs → NamesDiffer s.now xs → Marked s.now xs d.now before marks.old →
         Marks long s.now xs d.now before (written_as w) marks.new result }
 {
     let a = list_table::find(s, lists, e, d, w.name, w.size);
     if a == 0 {
-        return 20;
+        return Err(Refusal::Attribute);
     }
     let k = a - 1;
     if marks[2 * k] != 0 {
-        return 20;
+        return Err(Refusal::Attribute);
     }
     whole(*marks);
     let from = w.quote + 1;
@@ -69,13 +69,13 @@ fn mark(
     // What is written stands in the document, so that no other text is lent.
     let v = attribute_values::value(d, d, true, from, w.width);
     if attribute_values::fits(long, s, r.value, v) {
-        return 0;
+        return Ok(());
     }
-    22
+    Err(Refusal::Value)
 }
 
-// The n attributes that a tag gives: the first 20, else the first 22, else number 0. Where it is 0 they are marked. A 20 comes before each 22, so that the first misfit is
-// only remembered: where its value begins, which is never 0.
+// The n attributes that a tag gives: the first 20, else the first 22, else they are marked. A 20 comes before each 22, so that the first misfit is only remembered: where its
+// literal begins.
 fn marked(
     long: usize,
     s: &[u8],
@@ -85,36 +85,28 @@ fn marked(
     given: &[u16; GIVEN],
     n: usize,
     marks: &mut [u16; MARKS],
-) -> Fault
+) -> Reading<()>
     requires { (1 ≤ e.0) × (e.0 ≤ element_limit) × (n ≤ ATTCNT + 1) × GivenIn (length d.now) given.now n × (length s.now ≤ type_limit) × (length d.now ≤ document_limit) }
     ensures { (xs : List Attribute) → ListAt long s.now lists.now (LIST * (e.0 - 1)) xs → NamesDiffer s.now xs → ((k : ℕ) → k < length xs → get_or marks.old (2 * k) 0 ≡ 0) →
         Given long s.now xs d.now (kept_of given.now n) marks.new result }
 {
-    let mut misfit = 0;
-    let mut k = 0;
-    while k < n {
+    let mut misfit = None;
+    for k in 0..n {
         let w = tag_attributes::kept(given, k);
-        let r = mark(long, s, lists, d, e, w, marks);
-        if r == 20 {
-            return Fault {
-                number: 20,
-                at: w.name,
-            };
-        }
-        if r == 22 {
-            if misfit == 0 {
-                misfit = w.quote + 1;
+        match mark(long, s, lists, d, e, w, marks) {
+            Ok(()) => {}
+            Err(Refusal::Value) => {
+                if misfit.is_none() {
+                    misfit = Some(w.quote);
+                }
             }
+            Err(_) => return Err(Refusal::Attribute.at(w.name)),
         }
-        k += 1;
     }
-    if misfit != 0 {
-        return Fault {
-            number: 22,
-            at: misfit - 1,
-        };
+    match misfit {
+        Some(at) => Err(Refusal::Value.at(at)),
+        None => Ok(()),
     }
-    Fault { number: 0, at: 0 }
 }
 
 // Whether an attribute of the element e is required and not marked.
@@ -135,8 +127,8 @@ fn is_missing(lists: &[u16], e: ElementNo, n: usize, marks: &[u16; MARKS]) -> bo
     false
 }
 
-// The start tag at `at`, which was read, of the element e, which gives g attributes, of which so many are kept: 20, 22 or 21, or number 0. Where it is 0 they are marked; else
-// what `marks` holds is not decided.
+// The start tag at `at`, which was read, of the element e, which gives g attributes, of which so many are kept: 20, 22 or 21, else they are marked. Where it is refused, what
+// `marks` holds is not decided.
 pub fn check(
     long: usize,
     s: &[u8],
@@ -147,19 +139,16 @@ pub fn check(
     g: usize,
     at: usize,
     marks: &mut [u16; MARKS],
-) -> Fault
+) -> Reading<()>
     requires { (1 ≤ e.0) × (e.0 ≤ element_limit) × (g ≤ ATTCNT + 1) × GivenIn (length d.now) given.now g × (length s.now ≤ type_limit) × (length d.now ≤ document_limit) }
     ensures { (xs : List Attribute) (ws : List rules.Written) → ListAt long s.now lists.now (LIST * (e.0 - 1)) xs → NamesDiffer s.now xs → KeptAs given.now g ws →
         Attributed s.now xs d.now ws marks.new result (attributed long s.now xs d.now at ws) }
 {
     let n = list_table::count(lists, e);
     clear(marks, n);
-    let f = marked(long, s, lists, d, e, given, g, marks);
-    if f.number != 0 {
-        return f;
-    }
+    marked(long, s, lists, d, e, given, g, marks)?;
     if is_missing(lists, e, n, marks) {
-        return Fault { number: 21, at: at };
+        return Err(Refusal::AttributeMissing.at(at));
     }
-    f
+    Ok(())
 }

@@ -14,9 +14,7 @@ use Rattle.text.specs.Words.{test_in}
 use Rattle.name_tokens.specs.Tokens.{parts_of}
 use Rattle.list_table.specs.declared.Row.{Row}
 use Rattle.list_table.specs.Lists.{Short, RowOf, ListAt}
-use Rattle.attribute_definitions.specs.declared.DefinitionRead.{DefinitionRead}
-use Rattle.attribute_definitions.specs.declared.DefinitionRead.TheVariants as answers
-use Rattle.attribute_definitions.specs.Definition.{definition_fault, DefinedAs, MeetsDefinition, DefinitionFits}
+use Rattle.attribute_definitions.specs.Definition.{DefinedAs}
 use Rattle.list_definitions.specs.ListAs.{ListAs}
 
 pub closes_other : (b n : ℕ) → (b ≡ MDC → ⊥) → false ≡ (eqb b MDC && leb 1 n)
@@ -91,15 +89,3 @@ module _ (long : ℕ) (s : List ℕ) (from : ℕ) (list seen : List ℕ) (n m at
               parts = d.parts;
               due = ap (λ y. definitions long s y (r.xs ++ a ∷ []) e) left ∙ sym turn ∙ r.due;
             }
-
--- Answers by cases.
-
-module _ (long : ℕ) (s seen : List ℕ) (xs : List Attribute) (r : DefinitionRead) (x : Reading Definition) (h : MeetsDefinition long s seen xs r x) where
-  pub defined_got : {row : Row} {k e : ℕ} → r ≡ answers.Read row k e → DefinedAs long s seen row k e xs x
-  defined_got q = rw q at h
-
-  pub defined_refused : {f g : Fault} → r ≡ answers.Refused f → g ≡ definition_fault r → x ≡ refusal_of g
-  defined_refused q e = (rw q at h) ∙ ap refusal_of (sym (e ∙ ap definition_fault q))
-
-pub defined_within : (m : ℕ) {end i n k e : ℕ} {row : Row} {r : DefinitionRead} → DefinitionFits end i n m r → r ≡ answers.Read row k e → Short row × (n < ATTCNT) × (i ≤ e) × (e ≤ end) × (k ≤ m + GRPCNT)
-defined_within m h q = rw q at h

@@ -6,9 +6,8 @@ ghost use Rattle.rules.specs.TypeFile.{list_from};
 ghost use Rattle.rules.specs.Bytes.{MDC, type_limit};
 ghost use Rattle.list_definitions.specs.ListAs.{MeetsList, ListIn};
 
-use attribute_definitions::DefinitionRead;
 use layout::{LIST, TOKENS};
-use text::Reached;
+use text::Reading;
 
 // Whether the byte b closes a list that has n attributes so far.
 fn closes(b: u8, n: usize) -> bool
@@ -21,7 +20,7 @@ fn closes(b: u8, n: usize) -> bool
 }
 
 // The definitions of a list, one or more, from the end of its element's name on. What stands in `list` behind their rows, and in all of it on refusal, is not decided.
-pub fn definitions_at(long: usize, s: &[u8], from: usize, list: &mut [u16; LIST]) -> Reached
+pub fn definitions_at(long: usize, s: &[u8], from: usize, list: &mut [u16; LIST]) -> Reading<usize>
     requires { (3 ≤ from) × (from ≤ length s.now) × (length s.now ≤ type_limit) }
     ensures meets_list { MeetsList long s.now list.new result (list_from long s.now from) }
     ensures list_in { ListIn (length s.now) from result }
@@ -32,24 +31,18 @@ pub fn definitions_at(long: usize, s: &[u8], from: usize, list: &mut [u16; LIST]
     let mut m = 0;
     let mut at = from;
     loop {
-        let g = gaps::gap_end(s, at);
-        let Reached::At(i) = g else {
-            return Reached::Refused(text::fault_of(g));
-        };
+        let i = gaps::gap_end(s, at)?;
         let b = text::byte(s, i);
         if closes(b, n) {
-            return Reached::At(i + 1);
+            return Ok(i + 1);
         }
         if !text::is_letter(b) {
-            return Reached::Refused(gaps::unfit_at(s, i));
+            return Err(gaps::unfit_at(s, i));
         }
-        let d = attribute_definitions::definition_at(long, s, list, n, at, i, &mut seen, m);
-        let DefinitionRead::Read(r, k, e) = d else {
-            return Reached::Refused(attribute_definitions::fault_of(d));
-        };
-        list_table::put_attribute(list, n, r);
+        let d = attribute_definitions::definition_at(long, s, list, n, at, i, &mut seen, m)?;
+        list_table::put_attribute(list, n, d.row);
         n += 1;
-        m = k;
-        at = e;
+        m = d.tokens;
+        at = d.at;
     }
 }

@@ -16,7 +16,7 @@ ghost use Rattle.list_table.specs.Lists.{row_in, Short, RowOf, is_named, ListAt,
 use layout::{ATTCNT, ATTRIBUTE, ElementNo, LIST};
 
 // What is kept of an attribute.
-#[derive(Drop)]
+#[derive(Clone, Copy, Debug, PartialEq, Eq)]
 pub struct Row {
     pub name: usize,
     pub size: usize,

@@ -11,9 +11,6 @@ use Rattle.rules.specs.Attributes.{Part}
 use Rattle.rules.specs.TypeFile.{same_name, is_token, group_token, TokensEnd, is_token_connector, group_tokens, token_group}
 use Rattle.text.specs.Words.{test_in}
 use Rattle.text.specs.declared.Fault.{Fault}
-use Rattle.text.specs.declared.Reached.{Reached}
-use Rattle.text.specs.declared.Reached.TheVariants.{At, Refused}
-use Rattle.text.specs.Refusal.{refusal_of, fault_of}
 use Rattle.name_tokens.specs.Tokens.{part_in, parts_of, token_of, TokenIn, ReadAs}
 
 -- A table holds the tokens that were seen.
@@ -203,16 +200,6 @@ module _ (long : ℕ) (s : List ℕ) (ts : List Part) (x : Reading TokensEnd) (s
       where
         stopped : turn token j b ≡ refused 4 j
         stopped = rw (turn, ne_eqb b GRPC goes, ne_eqb b PERO plain, ← joins, h)
-
--- What the answer of `token_at` says, by the way that it went.
-pub token_in : {end i k e : ℕ} {t : Reached} → TokenIn end i k t → t ≡ At e → (i < e) × (e ≤ end) × (k < GRPCNT)
-token_in {end} {i} {k} h q = subst (TokenIn end i k) q h
-
-pub token_is : {i e : ℕ} {t : Reached} {x : Reading Part} → token_of i t ≡ x → t ≡ At e → x ≡ got (record { at = i; size = e - i })
-token_is {i} h q = sym h ∙ ap (token_of i) q
-
-pub token_refused : (i : ℕ) {t : Reached} {f g : Fault} {x : Reading Part} → token_of i t ≡ x → t ≡ Refused f → g ≡ fault_of t → x ≡ refused g.number g.at
-token_refused i h q e = sym h ∙ ap (token_of i) q ∙ ap refusal_of (sym (e ∙ ap fault_of q))
 
 -- What joins tokens stands in the text.
 pub joins_in : (s : List ℕ) (j b connector : ℕ) {k : Bool} → b ≡ byte_at s j → k ≡ (is_token_connector b && (eqb connector 0 || eqb connector b)) → k ≡ true → j < length s

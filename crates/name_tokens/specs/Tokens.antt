@@ -1,15 +1,12 @@
 -- The tokens of a list as the table holds them, and what the answers of the code stand for.
-use Rattle.std.specs.Prelude.{ℕ, zero, suc, ◌+◌, ◌-◌, ◌*◌, ◌≤◌, ◌<◌, ◌≡◌, List, [], ◌∷◌, ◌++◌, length, get_or}
+use Rattle.std.specs.Prelude.{ℕ, Result, Ok, Err, zero, suc, ◌+◌, ◌-◌, ◌*◌, ◌≤◌, ◌<◌, ◌≡◌, List, [], ◌∷◌, ◌++◌, length, get_or}
 use Rattle.rules.specs.Reading.{Reading, got}
 use Rattle.rules.specs.Attributes.{Part}
 use Rattle.rules.specs.TypeFile.{TokensEnd}
 use Rattle.rules.specs.Bytes.{GRPCNT}
 use Rattle.text.specs.declared.Fault.{Fault}
-use Rattle.text.specs.declared.Reached.{Reached}
-use Rattle.text.specs.declared.Reached.TheVariants as reached
 use Rattle.text.specs.Refusal.{refusal_of}
-use Rattle.name_tokens.specs.declared.GroupRead.{GroupRead}
-use Rattle.name_tokens.specs.declared.GroupRead.TheVariants.{Read, Refused}
+use Rattle.name_tokens.specs.declared.Tokens as code
 
 -- The k-th token, from 0: two numbers, where it stands and how long it is.
 abbrev pub part_in : List ℕ → ℕ → Part
@@ -21,14 +18,9 @@ parts_of seen zero = []
 parts_of seen (suc k) = parts_of seen k ++ part_in seen k ∷ []
 
 -- The token at i that ends where it says, or a refusal.
-abbrev pub token_of : ℕ → Reached → Reading Part
-token_of i (reached.At e) = got (record { at = i; size = e - i })
-token_of i (reached.Refused f) = refusal_of f
-
--- The refusal in an answer that is one.
-abbrev pub group_fault : GroupRead → Fault
-group_fault (Read m e) = record { number = 0; at = 0 }
-group_fault (Refused f) = f
+abbrev pub token_of : ℕ → Result ℕ Fault → Reading Part
+token_of i (Ok e) = got (record { at = i; size = e - i })
+token_of i (Err f) = refusal_of f
 
 -- A group that was read: the tokens of the list are then those before it, at most 32 more, and its own.
 pub record ReadAs (seen : List ℕ) (n m e : ℕ) (ts : List Part) (x : Reading TokensEnd) : Type 0 where
@@ -39,15 +31,15 @@ pub record ReadAs (seen : List ℕ) (n m e : ℕ) (ts : List Part) (x : Reading 
   pub counted : m ≡ n + length end.tokens
   pub few : length end.tokens ≤ GRPCNT
 
-abbrev pub MeetsGroup : (seen : List ℕ) (n : ℕ) (ts : List Part) → GroupRead → Reading TokensEnd → Type 0
-MeetsGroup seen n ts (Read m e) x = ReadAs seen n m e ts x
-MeetsGroup seen n ts (Refused f) x = x ≡ refusal_of f
+abbrev pub MeetsGroup : (seen : List ℕ) (n : ℕ) (ts : List Part) → Result code.Tokens Fault → Reading TokensEnd → Type 0
+MeetsGroup seen n ts (Ok g) x = ReadAs seen n g.count g.at ts x
+MeetsGroup seen n ts (Err f) x = x ≡ refusal_of f
 
 -- Whatever the table holds: a token is some of the text, and its group has room for it; a group that is read ends in the text, and has at most 32 tokens.
-abbrev pub TokenIn : (end i k : ℕ) → Reached → Type 0
-TokenIn end i k (reached.At e) = (i < e) × (e ≤ end) × (k < GRPCNT)
-TokenIn end i k (reached.Refused f) = Unit {0}
+abbrev pub TokenIn : (end i k : ℕ) → Result ℕ Fault → Type 0
+TokenIn end i k (Ok e) = (i < e) × (e ≤ end) × (k < GRPCNT)
+TokenIn end i k (Err f) = Unit {0}
 
-abbrev pub GroupIn : (end at n : ℕ) → GroupRead → Type 0
-GroupIn end at n (Read m e) = (at < e) × (e ≤ end) × (n < m) × (m ≤ n + GRPCNT)
-GroupIn end at n (Refused f) = Unit {0}
+abbrev pub GroupIn : (end at n : ℕ) → Result code.Tokens Fault → Type 0
+GroupIn end at n (Ok g) = (at < g.at) × (g.at ≤ end) × (n < g.count) × (g.count ≤ n + GRPCNT)
+GroupIn end at n (Err f) = Unit {0}

@@ -8,26 +8,16 @@ ghost use Rattle.rules.specs.Bytes.{ATTCNT, GRPCNT, type_limit};
 ghost use Rattle.rules.specs.Attributes.{Part};
 ghost use Rattle.rules.specs.TypeFile.{same_name, is_token, is_token_connector, group_token, token_group};
 ghost use Rattle.layout.specs.Sizes.{TOKENS};
-ghost use Rattle.name_tokens.specs.Tokens.{part_in, parts_of, token_of, TokenIn, MeetsGroup, GroupIn, group_fault};
+ghost use Rattle.name_tokens.specs.Tokens.{part_in, parts_of, token_of, TokenIn, MeetsGroup, GroupIn};
 
 use layout::{GRPCNT, TOKENS};
-use text::{Fault, Reached};
+use text::{Reading, Refusal};
 
 // How many tokens the list has now, and where the group ends.
-#[derive(Drop)]
-pub enum GroupRead {
-    Read(usize, usize),
-    Refused(Fault),
-}
-
-// The refusal of an answer that is one.
-pub fn fault_of(r: GroupRead) -> Fault
-    ensures { result ≡ group_fault r }
-{
-    match r {
-        GroupRead::Read(_, _) => Fault { number: 0, at: 0 },
-        GroupRead::Refused(f) => f,
-    }
+#[derive(Clone, Copy, Debug, PartialEq, Eq)]
+pub struct Tokens {
+    pub count: usize,
+    pub at: usize,
 }
 
 // The table has room for so many numbers.
@@ -63,7 +53,7 @@ fn is_seen(s: &[u8], seen: &[u16; TOKENS], n: usize, at: usize, size: usize) -> 
 }
 
 // The token at i, the k-th of its group from 0, after n of the list, and where it ends.
-fn token_at(long: usize, s: &[u8], i: usize, k: usize, seen: &[u16; TOKENS], n: usize) -> Reached
+fn token_at(long: usize, s: &[u8], i: usize, k: usize, seen: &[u16; TOKENS], n: usize) -> Reading<usize>
     requires { (i ≤ length s.now) × (length s.now ≤ type_limit) × (n ≤ GRPCNT * ATTCNT) }
     ensures result_value { (ts ps : List Part) → length ps ≡ k → parts_of seen.now n ≡ ts ++ ps → token_of i result ≡ group_token long s.now ts ps i }
     ensures token_in { TokenIn (length s.now) i k result }
@@ -71,20 +61,20 @@ fn token_at(long: usize, s: &[u8], i: usize, k: usize, seen: &[u16; TOKENS], n: 
     let e = text::name_end(s, i);
     if e == i {
         if text::byte(s, i) == b'%' {
-            return Reached::Refused(Fault { number: 5, at: i });
+            return Err(Refusal::LeftOut.at(i));
         }
-        return Reached::Refused(Fault { number: 4, at: i });
+        return Err(Refusal::Malformed.at(i));
     }
     if long < e - i {
-        return Reached::Refused(Fault { number: 3, at: i });
+        return Err(Refusal::NameTooLong.at(i));
     }
     if GRPCNT <= k {
-        return Reached::Refused(Fault { number: 6, at: i });
+        return Err(Refusal::Quantity.at(i));
     }
     if is_seen(s, seen, n, i, e - i) {
-        return Reached::Refused(Fault { number: 20, at: i });
+        return Err(Refusal::Attribute.at(i));
     }
-    Reached::At(e)
+    Ok(e)
 }
 
 // Whether a byte may join the tokens of a group.
@@ -124,7 +114,7 @@ fn put_token(seen: &mut [u16; TOKENS], n: usize, at: usize, size: usize)
 }
 
 // The group whose "(" stands at `at`, in a list that has n tokens so far. Where it is refused, what `seen` holds is not decided.
-pub fn group_at(long: usize, s: &[u8], at: usize, seen: &mut [u16; TOKENS], n: usize) -> GroupRead
+pub fn group_at(long: usize, s: &[u8], at: usize, seen: &mut [u16; TOKENS], n: usize) -> Reading<Tokens>
     requires { (at < length s.now) × (length s.now ≤ type_limit) × (n + GRPCNT ≤ GRPCNT * ATTCNT) }
     ensures meets_group { MeetsGroup seen.new n (parts_of seen.old n) result (token_group long s.now (parts_of seen.old n) at) }
     ensures group_in { GroupIn (length s.now) at n result }
@@ -133,22 +123,19 @@ pub fn group_at(long: usize, s: &[u8], at: usize, seen: &mut [u16; TOKENS], n: u
     let mut c = 0u8;
     let mut i = text::separators_end(s, at + 1);
     loop {
-        let t = token_at(long, s, i, m - n, seen, m);
-        let Reached::At(e) = t else {
-            return GroupRead::Refused(text::fault_of(t));
-        };
+        let e = token_at(long, s, i, m - n, seen, m)?;
         put_token(seen, m, i, e - i);
         m += 1;
         let j = text::separators_end(s, e);
         let b = text::byte(s, j);
         if b == b')' {
-            return GroupRead::Read(m, j + 1);
+            return Ok(Tokens { count: m, at: j + 1 });
         }
         if b == b'%' {
-            return GroupRead::Refused(Fault { number: 5, at: j });
+            return Err(Refusal::LeftOut.at(j));
         }
         if !joins(c, b) {
-            return GroupRead::Refused(Fault { number: 4, at: j });
+            return Err(Refusal::Malformed.at(j));
         }
         c = b;
         i = text::separators_end(s, j + 1);
