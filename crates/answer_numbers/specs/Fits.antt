@@ -1,5 +1,5 @@
 -- The numbers of the reader's answer are such as C gets, whether a document is read by itself or in a batch.
-use Rattle.std.specs.Prelude.{ℕ, ◌≤◌, ◌<◌, ◌≡◌, List}
+use Rattle.std.specs.Prelude.{ℕ, ◌≤◌, ◌<◌, ◌≡◌, List, Result, Ok, Err}
 use Rattle.std.proofs.Common.{ap, arith}
 use Rattle.rules.specs.Settings.{Settings}
 use Rattle.rules.specs.Lent.{Lent}
@@ -11,16 +11,17 @@ use Rattle.rules_laws.specs.Within.{type_file_within}
 use Rattle.rules.specs.Bytes.{document_limit}
 use Rattle.type_laws.specs.Members.{type_file_repeated}
 use Rattle.turn_laws.specs.Within.{document_within}
-use Rattle.one_document.specs.declared.Answer as reader
-use Rattle.one_document.specs.declared.Answer.TheVariants as answer
+use Rattle.type_judge.specs.declared.TypeFault.TheVariants.{Malformed, Ambiguous}
+use Rattle.type_stage.specs.declared.Refused.{Refused}
+use Rattle.type_stage.specs.declared.Refused.TheVariants.{InType, InDocument}
 use Rattle.one_document.specs.Answer as means
 
 -- The numbers of the reader's answer are 32-bit numbers.
-abbrev pub AnswerFits : reader.Answer → Type 0
-AnswerFits (answer.Accepted n) = n < 4294967296
-AnswerFits (answer.InType f) = f.at < 4294967296
-AnswerFits (answer.Ambiguous c) = Unit {0}
-AnswerFits (answer.InDocument f) = f.at < 4294967296
+abbrev pub AnswerFits : Result ℕ Refused → Type 0
+AnswerFits (Ok n) = n < 4294967296
+AnswerFits (Err (InType (Malformed f))) = f.at < 4294967296
+AnswerFits (Err (InType (Ambiguous c))) = Unit {0}
+AnswerFits (Err (InDocument f)) = f.at < 4294967296
 
 -- The places of a pair differ, so that they are not both 0.
 pair_ordered : (s : List ℕ) (k p q : ℕ) (c : Content) → PairStandsAt s c k p q → p < q
@@ -51,11 +52,11 @@ read_in_lem : {l : Lent} {c : Settings} {s d before after : List ℕ} {n i k : �
 read_in_lem h (ReadAs.refuses r z) = refused_in_lem r
 read_in_lem h (ReadAs.accepts es ev x f e z) = absurd (omega (arith, ap (λ (a : Answer). a.input) e))
 
-pub answer_fits : (l : Lent) (c : Settings) (s d before after : List ℕ) (a : reader.Answer) → ReadAs l c s d before (means.answer_of a) after → means.CountFits a → AnswerFits a
-answer_fits l c s d before after (answer.Accepted n) r x = x
-answer_fits l c s d before after (answer.InType f) r x = let i = read_in_lem (omega arith) r in omega arith
-answer_fits l c s d before after (answer.Ambiguous k) r x = tt
-answer_fits l c s d before after (answer.InDocument f) r x = let i = read_in_lem (omega arith) r in omega arith
+pub answer_fits : (l : Lent) (c : Settings) (s d before after : List ℕ) (a : Result ℕ Refused) → ReadAs l c s d before (means.answer_of a) after → means.CountFits a → AnswerFits a
+answer_fits l c s d before after (Ok n) r x = x
+answer_fits l c s d before after (Err (InType (Malformed f))) r x = let i = read_in_lem (omega arith) r in omega arith
+answer_fits l c s d before after (Err (InType (Ambiguous k))) r x = tt
+answer_fits l c s d before after (Err (InDocument f)) r x = let i = read_in_lem (omega arith) r in omega arith
 
 -- The refusal of a part that passes the string's end stands at 0.
 part_in : {c : Settings} {s : List ℕ} {a : Answer} → RefusesPart c s a → a.position ≡ 0
@@ -68,8 +69,8 @@ part_count (RefusesPart.not_offered o e) = ap (λ (x : Answer). x.count) e
 part_count (RefusesPart.type_too_long o l e) = ap (λ (x : Answer). x.count) e
 part_count (RefusesPart.passes_end o l e) = ap (λ (x : Answer). x.count) e
 
-pub part_fits : (c : Settings) (s : List ℕ) (a : reader.Answer) → RefusesPart c s (means.answer_of a) → AnswerFits a
-part_fits c s (answer.Accepted n) r = omega (arith, part_count r)
-part_fits c s (answer.InType f) r = omega (arith, part_in r)
-part_fits c s (answer.Ambiguous k) r = tt
-part_fits c s (answer.InDocument f) r = omega (arith, part_in r)
+pub part_fits : (c : Settings) (s : List ℕ) (a : Result ℕ Refused) → RefusesPart c s (means.answer_of a) → AnswerFits a
+part_fits c s (Ok n) r = omega (arith, part_count r)
+part_fits c s (Err (InType (Malformed f))) r = omega (arith, part_in r)
+part_fits c s (Err (InType (Ambiguous k))) r = tt
+part_fits c s (Err (InDocument f)) r = omega (arith, part_in r)

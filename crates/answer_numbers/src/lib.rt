@@ -8,6 +8,9 @@ ghost use Rattle.answer_numbers.specs.Fits.{AnswerFits};
 
 use layout::ANSWER;
 use one_document::Answer;
+use text::Refusal;
+use type_judge::TypeFault;
+use type_stage::Refused;
 
 // The six numbers of the reader's answer.
 pub fn numbers_read(a: Answer) -> [u32; ANSWER]
@@ -15,9 +18,11 @@ pub fn numbers_read(a: Answer) -> [u32; ANSWER]
     ensures { result ≡ answer_numbers (answer_of a) }
 {
     match a {
-        Answer::Accepted(n) => [0, 0, 0, 0, 0, n as u32],
-        Answer::InType(f) => [f.number, 1, f.at as u32, 0, 0, 0],
-        Answer::Ambiguous(c) => [9, 1, c.at, c.first, c.second, 0],
-        Answer::InDocument(f) => [f.number, 2, f.at as u32, 0, 0, 0],
+        Ok(n) => [0, 0, 0, 0, 0, n as u32],
+        Err(Refused::InType(TypeFault::Malformed(f))) => [f.number, 1, f.at as u32, 0, 0, 0],
+        Err(Refused::InType(TypeFault::Ambiguous(c))) => {
+            [Refusal::Ambiguous as u32, 1, c.at, c.first, c.second, 0]
+        }
+        Err(Refused::InDocument(f)) => [f.number, 2, f.at as u32, 0, 0, 0],
     }
 }

@@ -1,5 +1,5 @@
 -- The records of a type's attributes, by the rows of the table of lists, and what lent buffers hold of them.
-use Rattle.std.specs.Prelude.{ℕ, ◌+◌, ◌-◌, ◌*◌, ◌≤◌, ◌<◌, ◌≡◌, true, false, ◌⊎◌, List, [], ◌∷◌, ◌++◌, length, ltb}
+use Rattle.std.specs.Prelude.{ℕ, ◌+◌, ◌-◌, ◌*◌, ◌≤◌, ◌<◌, ◌≡◌, true, false, ◌⊎◌, List, [], ◌∷◌, ◌++◌, length, ltb, Result, Ok, Err}
 use Rattle.rules.specs.Settings.{Settings}
 use Rattle.rules.specs.Lent.{bytes_of}
 use Rattle.rules.specs.Attributes.{Attribute}
@@ -11,9 +11,9 @@ use Rattle.numbers.specs.Written.{Written}
 use Rattle.list_table.specs.declared.Row.{Row}
 use Rattle.list_table.specs.Lists as table
 use Rattle.attribute_lists.specs.Listed.{HeadedAs}
-use Rattle.type_judge.specs.declared.Verdict.{Verdict}
-use Rattle.type_judge.specs.declared.Verdict.TheVariants.{Accepted, Malformed, Ambiguous}
-use Rattle.type_judge.specs.Decides.{answer_of}
+use Rattle.text.specs.declared.Fault.{Fault}
+use Rattle.type_judge.specs.declared.TypeFault.{TypeFault}
+use Rattle.type_judge.specs.Decides.{refusal_by}
 
 -- A number of a row as a kind: itself below m, else m.
 abbrev pub kind_of : (m x : ℕ) → ℕ
@@ -56,21 +56,19 @@ abbrev pub NoRoom : (room : ℕ) → List Element → Answer → Type 0
 NoRoom room es a = (room < attribute_width * attribute_count es) × (a ≡ refusal 19 0 0 0)
 
 -- The attributes of elements that are accepted, put where there is room.
-abbrev pub ListsElements : (room : ℕ) → List Element → (numbers bytes numbers' bytes' : List ℕ) → Verdict → Type 0
-ListsElements room es numbers bytes numbers' bytes' (Accepted t) = (attribute_width * attribute_count es ≤ room) × (t ≡ attribute_count es) × Holds numbers bytes numbers' bytes' (list_numbers 1 es)
-ListsElements room es numbers bytes numbers' bytes' (Malformed f) = NoRoom room es (answer_of (Malformed f))
-ListsElements room es numbers bytes numbers' bytes' (Ambiguous x) = ⊥
+abbrev pub ListsElements : (room : ℕ) → List Element → (numbers bytes numbers' bytes' : List ℕ) → Result ℕ Fault → Type 0
+ListsElements room es numbers bytes numbers' bytes' (Ok t) = (attribute_width * attribute_count es ≤ room) × (t ≡ attribute_count es) × Holds numbers bytes numbers' bytes' (list_numbers 1 es)
+ListsElements room es numbers bytes numbers' bytes' (Err f) = NoRoom room es (refusal f.number f.at 0 0)
 
 -- The same by the heads of their lists.
-abbrev pub ListsUnder : (long : ℕ) → (s heads : List ℕ) (n room : ℕ) (numbers bytes numbers' bytes' : List ℕ) → Verdict → Type 0
+abbrev pub ListsUnder : (long : ℕ) → (s heads : List ℕ) (n room : ℕ) (numbers bytes numbers' bytes' : List ℕ) → Result ℕ Fault → Type 0
 ListsUnder long s heads n room numbers bytes numbers' bytes' v = (es : List Element) → length es ≡ n → HeadedAs long s heads es → ListsElements room es numbers bytes numbers' bytes' v
 
 -- What is decided on a type file: it is refused where all its elements have room, or the room is short for its attributes, or they are put.
 abbrev pub RefusesList : Settings → (s : List ℕ) (room : ℕ) → Answer → Type 0
 RefusesList c s room a = Refuses c s RECORDS a ⊎ ((es : List Element) × Accepts c s es × NoRoom room es a)
 
-abbrev pub Decides : Settings → (s : List ℕ) (room : ℕ) (numbers bytes numbers' bytes' : List ℕ) → Verdict → Type 0
-Decides c s room numbers bytes numbers' bytes' (Accepted t) =
-    (es : List Element) × Accepts c s es × ListsElements room es numbers bytes numbers' bytes' (Accepted t)
-Decides c s room numbers bytes numbers' bytes' (Malformed f) = RefusesList c s room (answer_of (Malformed f))
-Decides c s room numbers bytes numbers' bytes' (Ambiguous x) = RefusesList c s room (answer_of (Ambiguous x))
+abbrev pub Decides : Settings → (s : List ℕ) (room : ℕ) (numbers bytes numbers' bytes' : List ℕ) → Result ℕ TypeFault → Type 0
+Decides c s room numbers bytes numbers' bytes' (Ok t) =
+    (es : List Element) × Accepts c s es × ListsElements room es numbers bytes numbers' bytes' (Ok t)
+Decides c s room numbers bytes numbers' bytes' (Err x) = RefusesList c s room (refusal_by x)

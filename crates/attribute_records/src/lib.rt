@@ -15,7 +15,7 @@ ghost use Rattle.attribute_records.specs.Recorded.{kind_of, detail_of, row_numbe
 use inputs::Settings;
 use layout::{ATTRIBUTE_RECORD, ELEMENTS, ElementNo, LISTS, NUMBER, RECORDS};
 use list_table::Row;
-use text::Fault;
+use text::{Reading, Refusal};
 use type_judge::Verdict;
 
 // Which kind x is, where those below m have their own number and all others are m.
@@ -89,13 +89,11 @@ fn put_list(lists: &[u16], e: usize, n: usize, numbers: &mut [u32], bytes: &mut 
     ensures { PutsList lists.now e numbers.old bytes.old n numbers.new bytes.new result × (result ≤ n + ATTCNT) }
 {
     let count = list_table::count(lists, ElementNo(e));
-    let mut a = 0;
-    while a < count {
+    for a in 0..count {
         let r = list_table::attribute(lists, ElementNo(e), a);
         put_record(numbers, bytes, n + a, e, a + 1, r);
-        a += 1;
     }
-    n + a
+    n + count
 }
 
 // The records of all attributes of the first n elements; how many there are.
@@ -104,10 +102,8 @@ fn put_lists(lists: &[u16], n: usize, numbers: &mut [u32], bytes: &mut [u8]) -> 
     ensures { PutsLists lists.now n numbers.old bytes.old numbers.new bytes.new result × (result ≤ ATTCNT * element_limit) }
 {
     let mut m = 0;
-    let mut k = 0;
-    while k < n {
+    for k in 0..n {
         m = put_list(lists, k + 1, m, numbers, bytes);
-        k += 1;
     }
     m
 }
@@ -121,7 +117,7 @@ fn listed(
     room: usize,
     numbers: &mut [u32],
     bytes: &mut [u8],
-) -> Verdict
+) -> Reading<usize>
     requires { (n ≤ element_limit) × (length s.now ≤ type_limit) }
     ensures { ListsUnder long s.now heads.now n room numbers.old bytes.old numbers.new bytes.new result }
 {
@@ -129,9 +125,9 @@ fn listed(
     attribute_lists::fill(long, s, heads, n, &mut lists);
     let t = put_lists(&lists, n, numbers, bytes);
     if room < ATTRIBUTE_RECORD * t {
-        return Verdict::Malformed(Fault { number: 19, at: 0 });
+        return Err(Refusal::NoRoom.at(0));
     }
-    Verdict::Accepted(t)
+    Ok(t)
 }
 
 // Judges the type, with room for all its elements, then lists its attributes; a refusal zeroes nothing yet, and what the buffers hold then is not decided.
@@ -140,11 +136,8 @@ fn decide(c: Settings, s: &[u8], room: usize, numbers: &mut [u32], bytes: &mut [
 {
     let mut elements = [0u32; RECORDS];
     let mut heads = [0u16; ELEMENTS];
-    let v = type_judge::decide(c, s, RECORDS, &mut elements, &mut heads);
-    let Verdict::Accepted(n) = v else {
-        return v;
-    };
-    listed(c.name_length, s, &heads, n, room, numbers, bytes)
+    let n = type_judge::decide(c, s, RECORDS, &mut elements, &mut heads)?;
+    Ok(listed(c.name_length, s, &heads, n, room, numbers, bytes)?)
 }
 
 // Lists the attributes of a type file under the settings c. The buffer gets nine numbers for each attribute, or is zeroed.
@@ -154,10 +147,9 @@ pub fn list(c: Settings, s: &[u8], buffer: &mut [u32]) -> Verdict
     // No bytes are lent, so that records go to the numbers alone.
     let mut none = [0u8; 0];
     let v = decide(c, s, buffer.len(), buffer, &mut none);
-    if let Verdict::Accepted(_) = v {
-        return v;
+    if v.is_err() {
+        numbers::clear_numbers(buffer);
     }
-    numbers::clear_numbers(buffer);
     v
 }
 
@@ -168,9 +160,8 @@ pub fn list_to_bytes(c: Settings, s: &[u8], buffer: &mut [u8]) -> Verdict
     // No numbers are lent, so that records go to the bytes alone.
     let mut none = [0u32; 0];
     let v = decide(c, s, buffer.len() / NUMBER, &mut none, buffer);
-    if let Verdict::Accepted(_) = v {
-        return v;
+    if v.is_err() {
+        numbers::clear_bytes(buffer);
     }
-    numbers::clear_bytes(buffer);
     v
 }

@@ -87,12 +87,7 @@ pub fn too_long(g: Stage) -> Refused
 fn is_unclean(g: Stage) -> bool
     ensures { result ≡ is_unclean g }
 {
-    match g {
-        Err(Stopped::Unread(_)) => true,
-        Err(Stopped::Unclean(_)) => true,
-        Err(Stopped::Judged(_)) => false,
-        Ok(_) => false,
-    }
+    matches!(g, Err(Stopped::Unread(_) | Stopped::Unclean(_)))
 }
 
 // The document d in its order with what was judged of the type: it is to be read under so many elements, or one of the two is refused. Of a stage that is no
