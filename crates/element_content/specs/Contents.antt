@@ -1,5 +1,5 @@
 -- Laws of the rules' content: each way that reading it goes.
-use Rattle.std.specs.Prelude.{ℕ, ◌-◌, ◌≤◌, ◌<◌, ◌≡◌, refl, true, false, ◌&&◌, ◌||◌, List, [], length, ltb}
+use Rattle.std.specs.Prelude.{ℕ, Bool, Option, Some, None, Result, Ok, Err, ◌-◌, ◌≤◌, ◌<◌, ◌≡◌, refl, true, false, ◌&&◌, ◌||◌, List, [], length, ltb}
 use Rattle.std.proofs.Common.{sym, ap, ap₂, ◌∙◌, arith, eq-eqb, ne_eqb, lt-ltb, le-ltb}
 use Rattle.rules.specs.Bytes.{byte_at, letter, name_end, GRPLVL, GRPO}
 use Rattle.rules.specs.Reading.{Reading, refused, got}
@@ -16,16 +16,11 @@ use Rattle.model_table.specs.Fill.{finished}
 use Rattle.model_table.specs.Shows.{Fresh, says}
 use Rattle.model_table.specs.Behind.{finished_behind}
 use Rattle.model_code.specs.Spelled.{codes, code_in, code_same}
-use Rattle.connectors.specs.Kept.{Begun, begun, Tabled, Keeps}
-use Rattle.content_tokens.specs.Meets.{Meets, model_fault}
-use Rattle.content_tokens.specs.Readings.{refused_is}
-use Rattle.content_tokens.specs.declared.ModelRead.{ModelRead}
-use Rattle.content_tokens.specs.declared.ModelRead.TheVariants as model_read_here
-use Rattle.connectors.specs.declared.Model.{Model}
+use Rattle.connectors.specs.Kept.{begun, Tabled, Keeps}
+use Rattle.connectors.specs.declared.Model as kept
+use Rattle.element_content.specs.declared.Model.{Model}
 use Rattle.element_content.specs.declared.Body.{Body}
-use Rattle.element_content.specs.declared.BodyRead.{BodyRead}
-use Rattle.element_content.specs.declared.BodyRead.TheVariants as body_read_here
-use Rattle.element_content.specs.Kept.{wrong_word, KeepsBody, MeetsBody, body_fault}
+use Rattle.element_content.specs.Kept.{place, place_none, wrong_word, KeepsBody, MeetsBody}
 
 -- A word as content.
 module _ (long : ℕ) (s : List ℕ) (from i : ℕ) where
@@ -58,10 +53,6 @@ module _ (long : ℕ) (s : List ℕ) (i : ℕ) where
   unfolding content_model
   model_got q = rw (q, content_model)
 
--- A refusal of a model that is passed on.
-pub model_fault_lem : (end : ℕ) (B : Begun) (names table : List ℕ) (r : ModelRead) (x : Reading Tokens) {f g : Fault} → Meets end B names table r x → r ≡ model_read_here.Refused f → g ≡ model_fault r → x ≡ refusal_of g
-model_fault_lem end B names table r x {f} h q e = refused_is end B names table f x (rw q at h) ∙ ap refusal_of (sym (e ∙ ap model_fault q))
-
 -- A model that was read, with its indicator: where no "&" is told it has none, and where none is refused none stands under "+".
 module _ (long : ℕ) (s : List ℕ) (i : ℕ) (h : i < length s) (t : Tokens) (e : group long GRPLVL s i [] 0 ≡ got t) where
   model_read : Read s Whatever i [] (occurrence s t)
@@ -74,20 +65,19 @@ module _ (long : ℕ) (s : List ℕ) (i : ℕ) (h : i < length s) (t : Tokens) (
   model_guarded = model_read.guarded
 
 -- What the code keeps of a model when its table is finished.
-module _ {end : ℕ} {names T table : List ℕ} {m : Model} {t : Tokens} (k : Keeps end (begun 1 T 0 0) 1 0 names table m t) (plain : t.and ≡ 0 → Plain t.group) (guarded : t.repeated ≡ 0 → Guarded t.group) (fresh : Fresh T) where
+module _ {end : ℕ} {names T table : List ℕ} {m : kept.Model} {t : Tokens} (k : Keeps end (begun 1 T 0 0) 1 0 names table m t) (plain : t.and ≡ 0 → Plain t.group) (guarded : t.repeated ≡ 0 → Guarded t.group) (fresh : Fresh T) where
   tabled : Tabled (begun 1 T 0 0) t.group (codes t.group) t.tokens table m.code
   tabled = k.tabled (record { len = fresh.len; owed = omega arith })
 
-  pub model_kept : {finish : List ℕ} (code and repeated : ℕ) → finish ≡ finished table m.part → code ≡ m.code → and ≡ m.and → repeated ≡ m.repeated
-      → KeepsBody end names finish (record { kind = 1; tokens = m.tokens; places = m.places; at = m.at; code = code; and = and; repeated = repeated })
+  pub model_kept : {finish : List ℕ} (code : ℕ) (has : Bool) (repeated : Option ℕ) → finish ≡ finished table m.part → code ≡ m.code → (has ≡ false → m.and ≡ 0) → repeated ≡ place m.repeated
+      → KeepsBody end names finish (record { model = Some (record { tokens = m.tokens; places = m.places; code = code; and = has; repeated = repeated }); at = m.at })
       (record { content = model t.group t.places t.tokens; at = t.at; repeated = t.repeated })
-  model_kept {finish} code a r q x y z =
+  model_kept {finish} code has r q x y z =
       record {
         at = k.at;
         at_in = k.at_in;
-        repeated_at = z ∙ k.repeated_at;
+        repeated_at = z ∙ ap place k.repeated_at;
         content = (
-          refl,
           k.tokens,
           k.tokens_in_lem,
           record {
@@ -96,8 +86,8 @@ module _ {end : ℕ} {names T table : List ℕ} {m : Model} {t : Tokens} (k : Ke
             says = rw (q, k.part) (says t.group k.numbered (omega (arith, k.counted, k.places_in_lem, k.tokens_in_lem)) T table fresh tabled.filled);
             room = omega (arith, tabled.room, k.tokens_in_lem);
             spelled = ap₂ code_in q x ∙ code_same table (finished table m.part) (finished_behind table m.part).same m.code ∙ tabled.code_holds;
-            plain = λ o. plain (sym k.and_at ∙ sym y ∙ o);
-            guarded = λ o. guarded (sym k.repeated_at ∙ sym z ∙ o);
+            plain = λ o. plain (sym k.and_at ∙ y o);
+            guarded = λ o. guarded (sym k.repeated_at ∙ place_none m.repeated (sym z ∙ o));
             numbered = k.numbered;
             sized = omega (arith, k.counted, k.places);
             places_in_lem = omega (arith, k.places, k.places_in_lem, k.tokens_in_lem);
@@ -122,25 +112,21 @@ module _ (long : ℕ) (s : List ℕ) (from i : ℕ) where
 -- An answer and the reading that it meets.
 
 module _ (end : ℕ) (names table : List ℕ) where
-  pub body_read : (b : Body) (x : Reading ContentEnd) → MeetsBody end names table (body_read_here.Read b) x → (c : ContentEnd) × (x ≡ got c) × KeepsBody end names table b c
+  pub body_read : (b : Body) (x : Reading ContentEnd) → MeetsBody end names table (Ok b) x → (c : ContentEnd) × (x ≡ got c) × KeepsBody end names table b c
   body_read b (refused n k) h = absurd h
   body_read b (got c) h = (c, refl, h)
 
-  pub body_refusal : (f : Fault) (x : Reading ContentEnd) → MeetsBody end names table (body_read_here.Refused f) x → x ≡ refused f.number f.at
+  pub body_refusal : (f : Fault) (x : Reading ContentEnd) → MeetsBody end names table (Err f) x → x ≡ refused f.number f.at
   body_refusal f (refused n k) h = cc (h.0, h.1)
   body_refusal f (got c) h = absurd h
 
-  -- A refusal that is passed on.
-  pub body_fault_lem : (r : BodyRead) (x : Reading ContentEnd) {f g : Fault} → MeetsBody end names table r x → r ≡ body_read_here.Refused f → g ≡ body_fault r → x ≡ refusal_of g
-  body_fault_lem r x {f} h q e = body_refusal f x (rw q at h) ∙ ap refusal_of (sym (e ∙ ap body_fault q))
-
-  pub body_meets : (b : Body) (c : ContentEnd) (x : Reading ContentEnd) → x ≡ got c → KeepsBody end names table b c → MeetsBody end names table (body_read_here.Read b) x
+  pub body_meets : (b : Body) (c : ContentEnd) (x : Reading ContentEnd) → x ≡ got c → KeepsBody end names table b c → MeetsBody end names table (Ok b) x
   body_meets b c x q h = rw q h
 
-  pub body_refused : (f : Fault) (x : Reading ContentEnd) → x ≡ refused f.number f.at → MeetsBody end names table (body_read_here.Refused f) x
+  pub body_refused : (f : Fault) (x : Reading ContentEnd) → x ≡ refused f.number f.at → MeetsBody end names table (Err f) x
   body_refused f x q = rw q (refl, refl)
 
   -- The word from i to e is wrong.
   pub body_wrong : (s : List ℕ) (from i e : ℕ) (f : Fault) (x : Reading ContentEnd) → e ≡ name_end s i → f ≡ record { number = 4; at = wrong_word s from i e }
-      → x ≡ refused 4 (wrong_word s from i (name_end s i)) → MeetsBody end names table (body_read_here.Refused f) x
+      → x ≡ refused 4 (wrong_word s from i (name_end s i)) → MeetsBody end names table (Err f) x
   body_wrong s from i e f x E F q = body_refused f x (rw (F, E) q)

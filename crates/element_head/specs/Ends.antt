@@ -1,29 +1,26 @@
 -- A name and a head that were read lie in the input, behind where they began.
-use Rattle.std.specs.Prelude.{ℕ, ◌+◌, ◌≤◌, ◌<◌, ◌≡◌, List, length}
+use Rattle.std.specs.Prelude.{ℕ, Result, Ok, Err, ◌+◌, ◌≤◌, ◌<◌, ◌≡◌, List, length}
 use Rattle.std.proofs.Common.{sym, arith}
 use Rattle.rules.specs.TypeFile.{words}
-use Rattle.text.specs.declared.Reached.{Reached}
-use Rattle.text.specs.declared.Reached.TheVariants as reached
+use Rattle.text.specs.declared.Fault.{Fault}
 use Rattle.rules_laws.specs.Declarations.{words_range}
 use Rattle.rules.specs.Bytes.{element_limit}
 use Rattle.element_names.specs.Names.{NameIn}
 use Rattle.element_head.specs.declared.Head as here
-use Rattle.element_head.specs.declared.HeadRead.{HeadRead}
-use Rattle.element_head.specs.declared.HeadRead.TheVariants as head_read
 use Rattle.element_head.specs.Heads.{head_in, head_of, HeadIn}
 
 -- A name that was read.
-pub name_in : (long : ℕ) {end i count e : ℕ} {r : Reached} → NameIn long end i count r → r ≡ reached.At e → (i ≤ e) × (e ≤ end) × (count < element_limit) × (e ≤ i + long)
+pub name_in : (long : ℕ) {end i count e : ℕ} {r : Result ℕ Fault} → NameIn long end i count r → r ≡ Ok e → (i ≤ e) × (e ≤ end) × (count < element_limit) × (e ≤ i + long)
 name_in long h q = rw q at h
 
 -- A head that was read, where the gap before its name began at `from`.
-pub head_in_lem : (long : ℕ) (s : List ℕ) (i e from count : ℕ) (r : HeadRead) → head_of r ≡ words long s i e → from ≤ i → i ≤ e → e ≤ length s → count < element_limit → e ≤ i + long
+pub head_in_lem : (long : ℕ) (s : List ℕ) (i e from count : ℕ) (r : Result here.Head Fault) → head_of r ≡ words long s i e → from ≤ i → i ≤ e → e ≤ length s → count < element_limit → e ≤ i + long
     → HeadIn long (length s) from count r
-head_in_lem long s i e from count (head_read.Read h) q a b d f l =
+head_in_lem long s i e from count (Ok h) q a b d f l =
     let range = words_range long s i e (head_in h) d (sym q) in
     omega arith
-head_in_lem long s i e from count (head_read.Refused f) q a b d g l = tt
+head_in_lem long s i e from count (Err f) q a b d g l = tt
 
-pub head_within : (long : ℕ) {end from count : ℕ} {r : HeadRead} {h : here.Head} → HeadIn long end from count r → r ≡ head_read.Read h
+pub head_within : (long : ℕ) {end from count : ℕ} {r : Result here.Head Fault} {h : here.Head} → HeadIn long end from count r → r ≡ Ok h
     → (from ≤ h.at) × (h.at ≤ end) × (h.offset ≤ end) × (h.size ≤ end) × (count < element_limit) × (h.size ≤ long)
 head_within long h q = rw q at h

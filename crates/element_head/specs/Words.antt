@@ -1,19 +1,12 @@
 -- Laws of the rules' head of a declaration: each way that reading it goes.
 use Rattle.std.specs.Prelude.{ℕ, ◌+◌, ◌-◌, ◌≤◌, ◌<◌, ◌≡◌, true, false, ◌&&◌, List, eqb, ltb}
-use Rattle.std.proofs.Common.{sym, ap, ◌∙◌}
 use borrow.Author.Tests.{eq-eqb, lt-ltb, le-ltb}
 use Rattle.rules.specs.Bytes.{byte_at, letter, name_end, MINUS}
-use Rattle.rules.specs.Reading.{Reading, refused, got}
-use Rattle.rules.specs.TypeFile.{Head, Word, gap, is_word, O, element_name, omission, words, head}
+use Rattle.rules.specs.Reading.{refused, got}
+use Rattle.rules.specs.TypeFile.{Word, gap, is_word, O, element_name, omission, words, head}
 use Rattle.rules.specs.TypeFile as rules
 use Rattle.text.specs.Refusal.{refusal_of}
 use Rattle.text.specs.declared.Fault.{Fault}
-use Rattle.element_head.specs.declared.Omission.{Omission}
-use Rattle.element_head.specs.declared.Omission.TheVariants as omission_is
-use Rattle.element_head.specs.declared.Head as here
-use Rattle.element_head.specs.declared.HeadRead.{HeadRead}
-use Rattle.element_head.specs.declared.HeadRead.TheVariants as head_read
-use Rattle.element_head.specs.Heads.{omission_of, omission_fault, head_in, head_of, head_fault}
 
 -- A word of omitted tag minimization.
 module _ (long : ℕ) (s : List ℕ) (from i : ℕ) where
@@ -38,22 +31,6 @@ module _ (long : ℕ) (s : List ℕ) (from i : ℕ) where
       pub omission_word : (ltb from i && is_word s i (name_end s i) O) ≡ false → omission long s from i ≡ refused 4 i
       unfolding omission
       omission_word w = rw (d, l, le-ltb _ _ h, w, omission)
-
--- An answer by cases and the reading that it stands for.
-
-module _ {r : Omission} {x : Reading Word} (h : omission_of r ≡ x) where
-  pub word_got : {v i : ℕ} → r ≡ omission_is.Word v i → x ≡ got (record { value = v; at = i })
-  word_got q = sym h ∙ ap omission_of q
-
-  pub word_refused : {f g : Fault} → r ≡ omission_is.Refused f → g ≡ omission_fault r → x ≡ refusal_of g
-  word_refused q e = sym h ∙ ap omission_of q ∙ ap refusal_of (sym (e ∙ ap omission_fault q))
-
-module _ {r : HeadRead} {x : Reading Head} (h : head_of r ≡ x) where
-  pub head_got : {k : here.Head} → r ≡ head_read.Read k → x ≡ got (head_in k)
-  head_got q = sym h ∙ ap head_of q
-
-  pub head_refused : {f g : Fault} → r ≡ head_read.Refused f → g ≡ head_fault r → x ≡ refusal_of g
-  head_refused q e = sym h ∙ ap head_of q ∙ ap refusal_of (sym (e ∙ ap head_fault q))
 
 -- Each way that reading of the two words goes.
 module _ (long : ℕ) (s : List ℕ) (i e : ℕ) where

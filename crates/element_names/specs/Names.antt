@@ -1,11 +1,10 @@
 -- The elements declared so far as their table holds them, and the name of one more, in the rules' terms.
-use Rattle.std.specs.Prelude.{ℕ, ◌+◌, ◌*◌, ◌≤◌, ◌<◌, ◌≡◌, List, [], length, take, get_or}
+use Rattle.std.specs.Prelude.{ℕ, Result, Ok, Err, ◌+◌, ◌*◌, ◌≤◌, ◌<◌, ◌≡◌, List, [], length, take, get_or}
 use Rattle.rules.specs.TypeFile.{empty}
 use Rattle.rules.specs.TypeFile as rules
 use Rattle.rules.specs.Judge.{records, record_width}
 use Rattle.rules.specs.Bytes.{element_limit}
-use Rattle.text.specs.declared.Reached.{Reached}
-use Rattle.text.specs.declared.Reached.TheVariants as reached
+use Rattle.text.specs.declared.Fault.{Fault}
 
 -- The table of elements begins with the records of es.
 abbrev pub Recorded : List ℕ → List rules.Element → Type 0
@@ -16,6 +15,6 @@ abbrev pub name_at : List ℕ → ℕ → rules.Element
 name_at elements k = record { at = get_or elements (record_width * k) 0; size = get_or elements (record_width * k + 1) 0; start = 0; end = 0; content = empty; repeated = 0; attributes = [] }
 
 -- Whatever was declared before: a name that is read lies in the input, one more element has room, and the name is no longer than a name may be.
-abbrev pub NameIn : (long end i count : ℕ) → Reached → Type 0
-NameIn long end i count (reached.At e) = (i ≤ e) × (e ≤ end) × (count < element_limit) × (e ≤ i + long)
-NameIn long end i count (reached.Refused f) = Unit {0}
+abbrev pub NameIn : (long end i count : ℕ) → Result ℕ Fault → Type 0
+NameIn long end i count (Ok e) = (i ≤ e) × (e ≤ end) × (count < element_limit) × (e ≤ i + long)
+NameIn long end i count (Err f) = Unit {0}

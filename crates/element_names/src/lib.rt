@@ -11,7 +11,7 @@ ghost use Rattle.text.specs.Refusal.{reached};
 ghost use Rattle.element_names.specs.Names.{Recorded, name_at, NameIn};
 
 use layout::{ELEMENTS, RECORD, RECORDS};
-use text::{Fault, Reached};
+use text::{Reading, Refusal};
 
 // A number of the table of elements.
 fn number(elements: &[u32; RECORDS], k: usize) -> usize
@@ -77,7 +77,7 @@ pub fn element_name(
     i: usize,
     elements: &[u32; RECORDS],
     count: usize,
-) -> Reached
+) -> Reading<usize>
     requires { (i ≤ length s.now) × (length s.now ≤ type_limit) × (count ≤ element_limit) }
     ensures result_value { (es : List rules.Element) → length es ≡ count → Recorded elements.now es →
         reached result ≡ element_name long s.now i es }
@@ -87,18 +87,18 @@ pub fn element_name(
     if text::is_letter(b) {
         let e = text::name_end(s, i);
         if long < e - i {
-            return Reached::Refused(Fault { number: 3, at: i });
+            return Err(Refusal::NameTooLong.at(i));
         }
         if declared(s, elements, count, i, e - i).found {
-            return Reached::Refused(Fault { number: 7, at: i });
+            return Err(Refusal::DeclaredTwice.at(i));
         }
         if ELEMENTS <= count {
-            return Reached::Refused(Fault { number: 8, at: i });
+            return Err(Refusal::Elements.at(i));
         }
-        return Reached::At(e);
+        return Ok(e);
     }
     if b == b'(' {
-        return Reached::Refused(Fault { number: 5, at: i });
+        return Err(Refusal::LeftOut.at(i));
     }
-    Reached::Refused(gaps::unfit_at(s, i))
+    Err(gaps::unfit_at(s, i))
 }

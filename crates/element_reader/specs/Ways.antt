@@ -1,5 +1,5 @@
 -- Laws of the rules' element declarations: each way that reading goes, and what is kept of one.
-use Rattle.std.specs.Prelude.{ℕ, ◌+◌, ◌≤◌, ◌<◌, ◌≡◌, refl, true, false, ◌&&◌, ◌||◌, List, [], ◌∷◌, ◌++◌, eqb}
+use Rattle.std.specs.Prelude.{ℕ, Result, Ok, Err, ◌+◌, ◌≤◌, ◌<◌, ◌≡◌, refl, true, false, ◌&&◌, ◌||◌, List, [], ◌∷◌, ◌++◌, eqb}
 use Rattle.std.proofs.Common.{arith, eq-eqb, ne_eqb}
 use Rattle.rules.specs.Bytes.{byte_at, GRPO, MDC, MINUS, PLUS, element_limit}
 use Rattle.rules.specs.Reading.{Reading, refused, got}
@@ -8,8 +8,6 @@ use Rattle.rules.specs.TypeFile as rules
 use Rattle.text.specs.Refusal.{refusal_of}
 use Rattle.text.specs.declared.Fault.{Fault}
 use Rattle.element_reader.specs.declared.Element.{Element}
-use Rattle.element_reader.specs.declared.ElementRead.{ElementRead}
-use Rattle.element_reader.specs.declared.ElementRead.TheVariants as element_read
 use Rattle.element_reader.specs.Keeps.{KeepsElement, MeetsElement, ElementIn}
 pub use Rattle.element_names.specs.Records.{recorded_at}
 
@@ -66,17 +64,17 @@ module _ (long : ℕ) (s : List ℕ) (at : ℕ) (es : List rules.Element) where
 -- An answer and the reading that it meets.
 
 module _ (end from : ℕ) (names table : List ℕ) (es : List rules.Element) where
-  pub element_meets : (e : Element) (d : Declared) (x : Reading Declared) → x ≡ got d → KeepsElement end from names table es e d → MeetsElement end from names table es (element_read.Read e) x
+  pub element_meets : (e : Element) (d : Declared) (x : Reading Declared) → x ≡ got d → KeepsElement end from names table es e d → MeetsElement end from names table es (Ok e) x
   element_meets e d x q h = rw q h
 
-  pub element_refused : (f : Fault) (x : Reading Declared) → x ≡ refused f.number f.at → MeetsElement end from names table es (element_read.Refused f) x
+  pub element_refused : (f : Fault) (x : Reading Declared) → x ≡ refused f.number f.at → MeetsElement end from names table es (Err f) x
   element_refused f x q = rw q (refl, refl)
 
 -- A declaration that goes on from a later place goes on from an earlier one.
-pub element_from : {from later : ℕ} (end : ℕ) (names table : List ℕ) (es : List rules.Element) (r : ElementRead) (x : Reading Declared) → from ≤ later
+pub element_from : {from later : ℕ} (end : ℕ) (names table : List ℕ) (es : List rules.Element) (r : Result Element Fault) (x : Reading Declared) → from ≤ later
     → MeetsElement end later names table es r x → MeetsElement end from names table es r x
-element_from end names table es (element_read.Read e) (refused n k) l h = h
-element_from {from} {later} end names table es (element_read.Read e) (got d) l h = record {
+element_from end names table es (Ok e) (refused n k) l h = h
+element_from {from} {later} end names table es (Ok e) (got d) l h = record {
   element = h.element;
   grows = h.grows;
   at = h.at;
@@ -91,9 +89,9 @@ element_from {from} {later} end names table es (element_read.Read e) (got d) l h
   repeated_at = h.repeated_at;
   content = h.content;
 }
-element_from end names table es (element_read.Refused f) (refused n k) l h = h
-element_from end names table es (element_read.Refused f) (got d) l h = h
+element_from end names table es (Err f) (refused n k) l h = h
+element_from end names table es (Err f) (got d) l h = h
 
-pub element_room : (count : ℕ) (r : ElementRead) → count < element_limit → ElementIn count r
-element_room count (element_read.Read e) h = h
-element_room count (element_read.Refused f) h = tt
+pub element_room : (count : ℕ) (r : Result Element Fault) → count < element_limit → ElementIn count r
+element_room count (Ok e) h = h
+element_room count (Err f) h = tt

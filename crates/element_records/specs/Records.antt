@@ -1,13 +1,15 @@
 -- Laws of the table of elements: what is written of an element is its record, behind those before.
-use Rattle.std.specs.Prelude.{ℕ, ◌+◌, ◌*◌, ◌≤◌, ◌<◌, ◌≡◌, List, [], ◌∷◌, ◌++◌, false, length, take, set, eqb}
+use Rattle.std.specs.Prelude.{ℕ, refl, Option, Some, None, ◌+◌, ◌*◌, ◌≤◌, ◌<◌, ◌≡◌, List, [], ◌∷◌, ◌++◌, false, length, take, set, eqb}
 use Rattle.std.proofs.Common.{sym, ap, ◌∙◌, append-nil, append_assoc, arith, add-one, length-append, length-set, take-suc-set, eqb-true}
 use Rattle.rules.specs.TypeFile.{Content, empty, model, Element, earlier}
 use Rattle.rules.specs.Judge.{records, content_numbers, first_repeated, record_width}
 use Rattle.basic_laws.specs.Truth.{bool_cases}
 use Rattle.element_names.specs.Names.{Recorded}
+use Rattle.element_head.specs.Heads.{bit}
+use Rattle.element_content.specs.declared.Model.{Model}
 use Rattle.element_content.specs.Kept.{KeepsContent}
 use Rattle.element_reader.specs.declared as declared
-use Rattle.element_records.specs.Progress.{numbers_of}
+use Rattle.element_records.specs.Progress.{kind_of, tokens_of, numbers_of}
 use Rattle.element_names.specs.Records.{record_of}
 
 -- One more element.
@@ -32,13 +34,14 @@ repeated_more (e ∷ es) x = bool_cases (eqb e.repeated 0) (λ y. rw (y, first_r
 
 -- What the code writes of an element is its record.
 module _ (names table : List ℕ) (e : declared.Element.Element) (x : Element) where
-  content_kept : (c : Content) → KeepsContent names table e.kind e.tokens e.places e.code e.and e.repeated c → ◌≡◌ {A = List ℕ} (e.kind ∷ e.tokens ∷ []) (content_numbers c)
-  content_kept empty k = rw (k.0, k.1)
-  content_kept (model g ps n) k = rw (k.0, k.1)
+  content_kept : (m : Option Model) (c : Content) → KeepsContent names table m c → ◌≡◌ {A = List ℕ} (kind_of m ∷ tokens_of m ∷ []) (content_numbers c)
+  content_kept None empty k = refl
+  content_kept None (model g ps n) k = absurd k
+  content_kept (Some m) empty k = absurd k
+  content_kept (Some m) (model g ps n) k = rw k.0
 
-  pub numbers_kept : e.offset ≡ x.at → e.size ≡ x.size → e.start ≡ x.start → e.end ≡ x.end
-      → KeepsContent names table e.kind e.tokens e.places e.code e.and e.repeated x.content → numbers_of e ≡ record_of x
-  numbers_kept a b c d k = rw (a, b, c, d) (ap (λ (l : List ℕ). x.at ∷ x.size ∷ x.start ∷ x.end ∷ l) (content_kept x.content k))
+  pub numbers_kept : e.offset ≡ x.at → e.size ≡ x.size → bit e.start ≡ x.start → bit e.end ≡ x.end → KeepsContent names table e.model x.content → numbers_of e ≡ record_of x
+  numbers_kept a b c d k = rw (a, b, c, d) (ap (λ (l : List ℕ). x.at ∷ x.size ∷ x.start ∷ x.end ∷ l) (content_kept e.model x.content k))
 
 pub recorded_more : (before after : List ℕ) (k : ℕ) (e : declared.Element.Element) (es : List Element) (x : Element) → k ≡ length es → Recorded before es
     → take (record_width * (k + 1)) after ≡ take (record_width * k) before ++ numbers_of e → numbers_of e ≡ record_of x → Recorded after (es ++ x ∷ [])

@@ -1,19 +1,20 @@
 // The elements of a type file as they are read: each is recorded in the table of elements, and the first pair at fault is kept.
 #![tactic(auto)]
 
-ghost use Rattle.std.specs.Prelude.{◌≡◌, List, ◌++◌, ◌+◌, ◌*◌, ◌≤◌, ◌<◌, length, take};
+ghost use Rattle.std.specs.Prelude.{◌≡◌, ForSome, List, ◌++◌, ◌+◌, ◌*◌, ◌≤◌, ◌<◌, length, take};
 ghost use Rattle.rules.specs.TypeFile as rules;
 ghost use Rattle.rules.specs.Bytes.{GRPGTCNT, element_limit, type_limit};
 ghost use Rattle.rules.specs.Judge.{record_width};
 ghost use Rattle.layout.specs.Sizes.{RECORDS};
-ghost use Rattle.element_content.specs.Kept.{KeepsContent};
-ghost use Rattle.element_records.specs.Progress.{numbers_of, Pending, PendingWith, KeepsProgress, InProgress, MeetsStep, step_fault};
+ghost use Rattle.element_content.specs.Kept.{repeated_of, KeepsContent};
+ghost use Rattle.element_records.specs.Progress.{numbers_of, tokens_of, Pending, PendingWith, KeepsProgress, InProgress, MeetsStep};
 
-use element_reader::{Element, ElementRead};
+use element_content::Model;
+use element_reader::Element;
 use layout::{MODEL, NAMES, RECORD, RECORDS};
-use text::Fault;
+use text::Reading;
 
-// A pair at fault: where its second place stands and the two places; the second is 0 if there is none.
+// A pair at fault: where its second place stands and the two places.
 #[derive(Clone, Copy)]
 pub struct Clash {
     pub at: u32,
@@ -21,30 +22,13 @@ pub struct Clash {
     pub second: u32,
 }
 
-// How far the type file was read, how many elements it has so far, the first pair at fault, and where the first "&" stands that is refused, or 0.
+// How far the type file was read, how many elements it has so far, the first pair at fault, and where the first "&" stands that is refused.
 #[derive(Drop)]
 pub struct Progress {
     pub at: usize,
     pub count: usize,
-    pub clash: Clash,
-    pub repeated: usize,
-}
-
-// What a declaration comes to: the progress behind it, or the refusal.
-#[derive(Drop)]
-pub enum Step {
-    Read(Progress),
-    Refused(Fault),
-}
-
-// The refusal of an answer that is one.
-pub fn fault_of(r: Step) -> Fault
-    ensures { result ≡ step_fault r }
-{
-    match r {
-        Step::Read(_) => Fault { number: 0, at: 0 },
-        Step::Refused(f) => f,
-    }
+    pub clash: Option<Clash>,
+    pub repeated: Option<usize>,
 }
 
 // The table has as many numbers as its type says. Nothing is read of the copy, so no code is left of a call.
@@ -52,48 +36,58 @@ pub fn whole(elements: [u32; RECORDS])
     ensures { length elements ≡ RECORDS }
 {}
 
-// The record of the element that was declared after k others.
+// The record of the element that was declared after k others: its content is 0, or 1 and the content tokens of its model.
 fn put_record(elements: &mut [u32; RECORDS], k: usize, e: Element)
-    requires { (k < element_limit) × (e.offset < 4294967296) × (e.size < 4294967296) × (e.tokens < 4294967296) }
+    requires { (k < element_limit) × (e.offset < 4294967296) × (e.size < 4294967296) × (tokens_of e.model < 4294967296) }
     ensures { take (record_width * (k + 1)) elements.new ≡ take (record_width * k) elements.old ++ numbers_of e }
 {
     whole(*elements);
+    let tokens = match e.model {
+        Some(m) => m.tokens,
+        None => 0,
+    };
     elements[RECORD * k] = e.offset as u32;
     elements[RECORD * k + 1] = e.size as u32;
-    elements[RECORD * k + 2] = e.start;
-    elements[RECORD * k + 3] = e.end;
-    elements[RECORD * k + 4] = e.kind;
-    elements[RECORD * k + 5] = e.tokens as u32;
+    elements[RECORD * k + 2] = e.start as u32;
+    elements[RECORD * k + 3] = e.end as u32;
+    elements[RECORD * k + 4] = e.model.is_some() as u32;
+    elements[RECORD * k + 5] = tokens as u32;
 }
 
-// The first pair at fault so far, where the element e, read last, has its model in `names` and `table`. Where an "&" of the model is refused, it is
+// The first pair at fault so far, where the element read last has the model in `names` and `table`, or is EMPTY. Where an "&" of the model is refused, it is
 // not decided.
-fn clash_with(s: &[u8], c: Clash, e: Element, names: &[u32; NAMES], table: &[u8; MODEL]) -> Clash
-    requires { (e.kind ≡ 0 → ⊥) → e.places ≤ GRPGTCNT }
+fn clash_with(
+    s: &[u8],
+    c: Option<Clash>,
+    model: Option<Model>,
+    names: &[u32; NAMES],
+    table: &[u8; MODEL],
+) -> Option<Clash>
+    requires { ForSome model (λ m. m.places ≤ GRPGTCNT) }
     ensures { (es : List rules.Element) (x : rules.Content) → Pending s.now c es →
-        KeepsContent names.now table.now e.kind e.tokens e.places e.code e.and e.repeated x → e.repeated ≡ 0 → PendingWith s.now result es x }
+        KeepsContent names.now table.now model x → repeated_of model ≡ None → PendingWith s.now result es x }
 {
-    if c.second != 0 {
+    if c.is_some() {
         return c;
     }
-    if e.kind == 0 {
-        return c;
+    let Some(m) = model else {
+        return None;
+    };
+    if m.repeated.is_some() {
+        return None;
     }
-    if e.repeated != 0 {
-        return c;
-    }
-    let pair = model_pairs::first_pair(s, names, table, e.places, e.code, e.and != 0);
+    let pair = model_pairs::first_pair(s, names, table, m.places, m.code, m.and);
     let q = pair.second;
     if q == 0 {
-        return c;
+        return None;
     }
     let at = model_names::place_at(names, q);
     let p = pair.first;
-    Clash {
+    Some(Clash {
         at: at as u32,
         first: p as u32,
         second: q as u32,
-    }
+    })
 }
 
 // An element declaration whose keyword ends at `at`, after those that p counts. What stands in `elements` behind the records, or where it is
@@ -106,27 +100,23 @@ pub fn element_at(
     elements: &mut [u32; RECORDS],
     names: &mut [u32; NAMES],
     table: &mut [u8; MODEL],
-) -> Step
+) -> Reading<Progress>
     requires at_in_bounds { (at ≤ length s.now) × (length s.now ≤ type_limit) }
     requires in_progress { InProgress s.now elements.old p }
     ensures { (es : List rules.Element) → KeepsProgress s.now elements.old p es →
         MeetsStep s.now elements.new at result (rules.element long s.now at es) }
 {
     let count = p.count;
-    let r = element_reader::element_at(long, s, at, elements, count, names, table);
-    let ElementRead::Read(e) = r else {
-        return Step::Refused(element_reader::fault_of(r));
-    };
+    let e = element_reader::element_at(long, s, at, elements, count, names, table)?;
     put_record(elements, count, e);
-    let c = p.clash;
-    let mut first = p.repeated;
-    if first == 0 {
-        first = e.repeated;
-    }
-    Step::Read(Progress {
+    let refused = match e.model {
+        Some(m) => m.repeated,
+        None => None,
+    };
+    Ok(Progress {
         at: e.at,
         count: count + 1,
-        clash: clash_with(s, c, e, names, table),
-        repeated: first,
+        clash: clash_with(s, p.clash, e.model, names, table),
+        repeated: p.repeated.or(refused),
     })
 }
