@@ -99,10 +99,7 @@ pub fn has_model(facts: &[u8; FACTS], e: ElementNo) -> bool
 
 // The place of the name x that may come next in the element e after the place u at the level, or 0.
 pub fn fitting(
-    rows: &[u8; ROWS],
-    places: &[u8; PLACES],
-    facts: &[u8; FACTS],
-    members: &[u8],
+    t: TypeTables,
     begun: &[u32; BEGUN],
     level: usize,
     e: ElementNo,
@@ -110,41 +107,38 @@ pub fn fitting(
     x: ElementNo,
 ) -> Place
     requires { (level ≤ TAGLVL) × (e.0 ≤ element_limit) × (u.0 ≤ GRPGTCNT) × (x.0 ≤ element_limit) }
-    ensures by_index { (s : List ℕ) (es : List Element) → Tables s es rows.now places.now facts.now members.now →
-        (o : rules.Open) → Entered es members.now begun.now level e.0 u.0 o →
-        (t : Token) → name_number t ≡ x.0 → Declares es t → result.0 ≡ (decided s es).fits e.0 o.taken t }
+    ensures by_index { (s : List ℕ) (es : List Element) → Tables s es t.entry.rows.now t.entry.places.now t.entry.facts.now t.entry.members.now →
+        (o : rules.Open) → Entered es t.entry.members.now begun.now level e.0 u.0 o →
+        (k : Token) → name_number k ≡ x.0 → Declares es k → result.0 ≡ (decided s es).fits e.0 o.taken k }
     ensures result_bound { result.0 ≤ GRPGTCNT }
 {
     let name = x.0;
-    let p = numbers::wide(facts[e.0 * FACT + name]);
+    let p = numbers::wide(t.facts[e.0 * FACT + name]);
     if GRPGTCNT < p {
-        return row_search::largest_among(rows, places, members, begun, level, e, u, p);
+        return row_search::largest_among(t.rows, t.places, t.members, begun, level, e, u, p);
     }
-    row_search::largest(rows, places, e, u, Place(p))
+    row_search::largest(t.rows, t.places, e, u, Place(p))
 }
 
 // Whether data may come next in the element e after the place u at the level.
 pub fn takes_data(
-    rows: &[u8; ROWS],
-    places: &[u8; PLACES],
-    facts: &[u8; FACTS],
-    members: &[u8],
+    t: TypeTables,
     begun: &[u32; BEGUN],
     level: usize,
     e: ElementNo,
     u: Place,
 ) -> bool
     requires { (level ≤ TAGLVL) × (e.0 ≤ element_limit) × (u.0 ≤ GRPGTCNT) }
-    ensures { (s : List ℕ) (es : List Element) → Tables s es rows.now places.now facts.now members.now →
-        (o : rules.Open) → Entered es members.now begun.now level e.0 u.0 o →
+    ensures { (s : List ℕ) (es : List Element) → Tables s es t.entry.rows.now t.entry.places.now t.entry.facts.now t.entry.members.now →
+        (o : rules.Open) → Entered es t.entry.members.now begun.now level e.0 u.0 o →
         result ≡ leb 1 ((decided s es).fits e.0 o.taken decisions.pcdata) }
 {
-    let p = numbers::wide(facts[e.0 * FACT]);
+    let p = numbers::wide(t.facts[e.0 * FACT]);
     if GRPGTCNT < p {
-        let q = row_search::largest_among(rows, places, members, begun, level, e, u, p);
+        let q = row_search::largest_among(t.rows, t.places, t.members, begun, level, e, u, p);
         return q.0 != 0;
     }
-    let q = row_search::largest(rows, places, e, u, Place(p));
+    let q = row_search::largest(t.rows, t.places, e, u, Place(p));
     q.0 != 0
 }
 
@@ -166,27 +160,25 @@ fn lowered(p: usize) -> Place
 
 // The place of the name x that may come next at the start of the element e, or 0. Nothing has begun there, so the row decides.
 pub fn fitting_first(
-    rows: &[u8; ROWS],
-    places: &[u8; PLACES],
-    facts: &[u8; FACTS],
+    t: TypeTables,
     e: ElementNo,
     x: ElementNo,
 ) -> Place
     requires { (e.0 ≤ element_limit) × (x.0 ≤ element_limit) }
-    ensures by_index { (s : List ℕ) (es : List Element) (M : List ℕ) → Tables s es rows.now places.now facts.now M → e.0 ≤ length es →
-        (t : Token) → name_number t ≡ x.0 → Declares es t → result.0 ≡ (decided s es).fits e.0 [] t }
+    ensures by_index { (s : List ℕ) (es : List Element) (M : List ℕ) → Tables s es t.entry.rows.now t.entry.places.now t.entry.facts.now M → e.0 ≤ length es →
+        (k : Token) → name_number k ≡ x.0 → Declares es k → result.0 ≡ (decided s es).fits e.0 [] k }
     ensures result_bound { result.0 ≤ GRPGTCNT }
 {
     let name = x.0;
-    let p = numbers::wide(facts[e.0 * FACT + name]);
+    let p = numbers::wide(t.facts[e.0 * FACT + name]);
     let none = Place(0);
-    row_search::largest(rows, places, e, none, lowered(p))
+    row_search::largest(t.rows, t.places, e, none, lowered(p))
 }
 
 // The element whose start is to be inferred in the element e where the place p is required, or 0.
-pub fn startable(places: &[u8; PLACES], facts: &[u8; FACTS], e: ElementNo, p: Place) -> ElementNo
+pub fn startable(t: TypeTables, e: ElementNo, p: Place) -> ElementNo
     requires { e.0 ≤ element_limit }
-    ensures by_index { (s : List ℕ) (es : List Element) (rows M : List ℕ) → Tables s es rows places.now facts.now M →
+    ensures by_index { (s : List ℕ) (es : List Element) (rows M : List ℕ) → Tables s es rows t.entry.places.now t.entry.facts.now M →
         (o : rules.Open) (begun : List ℕ) (level u : ℕ) → Entered es M begun level e.0 u o → p.0 ≡ rules.required_place s es (decided s es) o →
         result.0 ≡ rules.inferable s es (decided s es) o }
     ensures result_le_element_limit { result.0 ≤ element_limit }
@@ -199,17 +191,17 @@ pub fn startable(places: &[u8; PLACES], facts: &[u8; FACTS], e: ElementNo, p: Pl
         return none;
     }
     // What the place names is an element, `PCDATA`, or 0 if that is not declared.
-    let k = ElementNo(numbers::wide(places[(e.0 * POSITIONS + p.0) * LINK]));
+    let k = ElementNo(numbers::wide(t.places[(e.0 * POSITIONS + p.0) * LINK]));
     if k.0 == 0 {
         return none;
     }
     if ELEMENTS < k.0 {
         return none;
     }
-    if !start_omitted(facts, k) {
+    if !start_omitted(t.facts, k) {
         return none;
     }
-    if !has_model(facts, k) {
+    if !has_model(t.facts, k) {
         return none;
     }
     k
@@ -217,17 +209,15 @@ pub fn startable(places: &[u8; PLACES], facts: &[u8; FACTS], e: ElementNo, p: Pl
 
 // The element whose start is to be inferred at the start of the element e, or 0.
 pub fn inferable(
-    rows: &[u8; ROWS],
-    places: &[u8; PLACES],
-    facts: &[u8; FACTS],
+    t: TypeTables,
     e: ElementNo,
 ) -> ElementNo
     requires { e.0 ≤ element_limit }
-    ensures by_index { (s : List ℕ) (es : List Element) (M : List ℕ) → Tables s es rows.now places.now facts.now M → e.0 ≤ length es →
+    ensures by_index { (s : List ℕ) (es : List Element) (M : List ℕ) → Tables s es t.entry.rows.now t.entry.places.now t.entry.facts.now M → e.0 ≤ length es →
         result.0 ≡ rules.inferable s es (decided s es) (fresh e.0) }
     ensures result_le_element_limit { result.0 ≤ element_limit }
 {
     let none = Place(0);
-    let q = required(rows, e, none);
-    startable(places, facts, e, q)
+    let q = required(t.rows, e, none);
+    startable(t, e, q)
 }

@@ -18,7 +18,7 @@ returns-then-k-gt-ELEMENTS-clause-by_index c = infers_by _ _ _ _ _ (λ s es rows
 
 pub returns-then-not-start_omitted-clause-by_index : goal.returns-then-not-start_omitted-clause-by_index
 returns-then-not-start_omitted-clause-by_index c =
-    let named : Names c.args.places.now c.args.e.0 c.args.p.0 c.wide.result = record {
+    let named : Names c.args.t.places.now c.args.e.0 c.args.p.0 c.wide.result = record {
       some = c.if-p-eq0.false;
       read = c.wide.ensures.0;
       declared = c.if-k-eq0.false;
@@ -30,7 +30,7 @@ returns-then-not-start_omitted-clause-by_index c =
 
 pub returns-then-not-has_model-clause-by_index : goal.returns-then-not-has_model-clause-by_index
 returns-then-not-has_model-clause-by_index c =
-    let named : Names c.args.places.now c.args.e.0 c.args.p.0 c.wide.result = record {
+    let named : Names c.args.t.places.now c.args.e.0 c.args.p.0 c.wide.result = record {
       some = c.if-p-eq0.false;
       read = c.wide.ensures.0;
       declared = c.if-k-eq0.false;
@@ -42,7 +42,7 @@ returns-then-not-has_model-clause-by_index c =
 
 pub returns-clause-by_index : goal.returns-clause-by_index
 returns-clause-by_index c =
-    let named : Names c.args.places.now c.args.e.0 c.args.p.0 c.wide.result = record {
+    let named : Names c.args.t.places.now c.args.e.0 c.args.p.0 c.wide.result = record {
       some = c.if-p-eq0.false;
       read = c.wide.ensures.0;
       declared = c.if-k-eq0.false;
