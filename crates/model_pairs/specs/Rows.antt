@@ -1,9 +1,10 @@
 -- The test that the search for a pair at fault makes on a model's tables.
-use Rattle.std.specs.Prelude.{ℕ, zero, suc, ◌+◌, ◌*◌, ◌≤◌, ◌<◌, ◌≡◌, Bool, true, false, ◌&&◌, ◌||◌, List, get_or, eqb}
+use Rattle.std.specs.Prelude.{ℕ, zero, suc, ◌+◌, ◌*◌, ◌≤◌, ◌<◌, ◌≡◌, Bool, true, false, ◌&&◌, ◌||◌, Option, Some, None, List, get_or, eqb}
 use Rattle.rules.specs.Judge.{same_place}
 use Rattle.layout.specs.Sizes.{MODEL_ROW}
 use Rattle.model_code.specs.Six.{Told}
 use Rattle.model_names.specs.Places.{places_of}
+use Rattle.model_pairs.specs.declared.Pair.{Pair}
 
 -- A row has this number at a place that may come next.
 abbrev pub is_next : ℕ → Bool
@@ -28,3 +29,8 @@ pub record Tells (table : List ℕ) (n code : ℕ) (and : Bool) (F : ℕ → ℕ
 -- The places p and q have the same name, and can both come next after one beginning.
 unfoldable pub fault_in : List ℕ → List ℕ → (ℕ → ℕ → Bool) → ℕ → ℕ → ℕ → Bool
 fault_in s names F n p q = same_place s (places_of names n) p q && F p q
+
+-- The two numbers of a pair, both 0 if there is none.
+abbrev pub numbers_of : Option Pair → ℕ × ℕ
+numbers_of None = (0, 0)
+numbers_of (Some r) = (r.first, r.second)

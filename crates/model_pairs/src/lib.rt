@@ -1,17 +1,17 @@
 // The first pair of places at fault in a content model.
 #![tactic(auto)]
 
-ghost use Rattle.std.specs.Prelude.{◌≡◌, Bool, true, false, ◌||◌, ◌⊎◌, ℕ, suc, ◌+◌, ◌-◌, ◌*◌, ◌≤◌, ◌<◌, get_or};
+ghost use Rattle.std.specs.Prelude.{◌≡◌, Bool, true, false, ◌||◌, MatchOption, IfSome, unwrap_or, ℕ, suc, ◌+◌, ◌-◌, ◌*◌, ◌≤◌, ◌<◌, get_or};
 ghost use Rattle.rules.specs.Bytes.{GRPGTCNT};
 ghost use Rattle.layout.specs.Sizes.{MODEL_ROW, POSITIONS};
 ghost use Rattle.model_sets.specs.Search.{find_from, search_pair};
 ghost use Rattle.model_code.specs.Six.{Told};
 ghost use Rattle.model_names.specs.Places.{place_in, key_of};
-ghost use Rattle.model_pairs.specs.Rows.{is_next, row_in, clash_in, Tells, fault_in};
+ghost use Rattle.model_pairs.specs.Rows.{is_next, row_in, clash_in, Tells, fault_in, numbers_of};
 
 use layout::{MODEL, MODEL_ROW, NAMES, POSITIONS};
 
-// Two places, the smaller number first; both 0 if there is no pair.
+// Two places, the smaller number first.
 #[derive(Drop)]
 pub struct Pair {
     pub first: usize,
@@ -75,7 +75,7 @@ fn is_fault(table: &[u8; MODEL], code: usize, and: bool, p: usize, q: usize) -> 
     model_code::clash(table, code, p, q)
 }
 
-// The first place after p that is at fault with it, 0 if there is none.
+// The first place after p that is at fault with it.
 fn partner(
     s: &[u8],
     names: &[u32; NAMES],
@@ -85,29 +85,24 @@ fn partner(
     code: usize,
     and: bool,
     p: usize,
-) -> usize
+) -> Option<usize>
     requires n_bound { (n ≤ GRPGTCNT) × (1 ≤ p) × (p ≤ n) }
     requires by_index { (x : ℕ) → 1 ≤ x → x ≤ n → get_or keys.now x 0 ≡ key_of s.now (place_in names.now (x - 1)) }
-    ensures by_index_2 { (F : ℕ → ℕ → Bool) → Tells table.now n code and F → result ≡ find_from (fault_in s.now names.now F n p) (n - p) (suc p) }
-    ensures fact { (result ≡ 0) ⊎ ((p < result) × (result ≤ n)) }
+    ensures by_index_2 { (F : ℕ → ℕ → Bool) → Tells table.now n code and F →
+        unwrap_or result 0 ≡ find_from (fault_in s.now names.now F n p) (n - p) (suc p) }
+    ensures fact { IfSome result (λ q. (p < q) × (q ≤ n)) }
 {
     if !same_names::shares_key(keys, n, p) {
-        return 0;
+        return None;
     }
-    let mut q = same_names::same_name(s, names, keys, n, p, p + 1);
-    if n < q {
-        return 0;
-    }
+    let mut q = same_names::same_name(s, names, keys, n, p, p + 1)?;
     let near = beside(table, n, p);
-    while q <= n {
-        if near[q] {
-            if is_fault(table, code, and, p, q) {
-                return q;
-            }
+    loop {
+        if near[q] && is_fault(table, code, and, p, q) {
+            return Some(q);
         }
-        q = same_names::same_name(s, names, keys, n, p, q + 1);
+        q = same_names::same_name(s, names, keys, n, p, q + 1)?;
     }
-    0
 }
 
 // The model's first pair at fault: s is the type file, `names` and `table` are those of the model, n is how many places it has,
@@ -119,25 +114,19 @@ pub fn first_pair(
     n: usize,
     code: usize,
     and: bool,
-) -> Pair
+) -> Option<Pair>
     requires { n ≤ GRPGTCNT }
-    ensures by_index { (F : ℕ → ℕ → Bool) → Tells table.now n code and F → (result.first, result.second) ≡ search_pair (fault_in s.now names.now F n) n }
-    ensures fact { ((result.first ≡ 0) × (result.second ≡ 0)) ⊎ ((1 ≤ result.first) × (result.first < result.second) × (result.second ≤ n)) }
+    ensures by_index { (F : ℕ → ℕ → Bool) → Tells table.now n code and F → numbers_of result ≡ search_pair (fault_in s.now names.now F n) n }
+    ensures fact { IfSome result (λ r. (1 ≤ r.first) × (r.first < r.second) × (r.second ≤ n)) }
 {
     let keys = same_names::keys_of(s, names, n);
-    let mut p = 1;
-    while p <= n {
-        let q = partner(s, names, table, &keys, n, code, and, p);
-        if q != 0 {
-            return Pair {
+    for p in 1..n + 1 {
+        if let Some(q) = partner(s, names, table, &keys, n, code, and, p) {
+            return Some(Pair {
                 first: p,
                 second: q,
-            };
+            });
         }
-        p += 1;
     }
-    Pair {
-        first: 0,
-        second: 0,
-    }
+    None
 }

@@ -1,7 +1,7 @@
 // The places of a content model that have the same name, found by their keys.
 #![tactic(auto)]
 
-ghost use Rattle.std.specs.Prelude.{◌≡◌, true, ℕ, suc, ◌+◌, ◌-◌, ◌≤◌, ◌<◌, get_or};
+ghost use Rattle.std.specs.Prelude.{◌≡◌, true, MatchOption, ℕ, suc, ◌+◌, ◌-◌, ◌≤◌, ◌<◌, get_or};
 ghost use Rattle.rules.specs.Judge.{same_place};
 ghost use Rattle.rules.specs.Bytes.{GRPGTCNT};
 ghost use Rattle.model_names.specs.Places.{place_in, places_of, key_of};
@@ -15,15 +15,13 @@ pub fn keys_of(s: &[u8], names: &[u32; NAMES], n: usize) -> [u32; POSITIONS]
     ensures { (p : ℕ) → 1 ≤ p → p ≤ n → get_or result p 0 ≡ key_of s.now (place_in names.now (p - 1)) }
 {
     let mut keys = [0u32; POSITIONS];
-    let mut p = 1;
-    while p <= n {
+    for p in 1..n + 1 {
         keys[p] = model_names::key(s, names, p);
-        p += 1;
     }
     keys
 }
 
-// The first of the places from q to n that has the name of p, n + 1 if there is none.
+// The first of the places from q to n that has the name of p.
 pub fn same_name(
     s: &[u8],
     names: &[u32; NAMES],
@@ -31,24 +29,22 @@ pub fn same_name(
     n: usize,
     p: usize,
     q: usize,
-) -> usize
+) -> Option<usize>
     requires n_bound { (n ≤ GRPGTCNT) × (1 ≤ p) × (p ≤ n) × (1 ≤ q) × (q ≤ n + 1) }
     requires by_index { (x : ℕ) → 1 ≤ x → x ≤ n → get_or keys.now x 0 ≡ key_of s.now (place_in names.now (x - 1)) }
-    ensures { (q ≤ result) × (result ≤ n + 1)
-        × ((x : ℕ) → q ≤ x → x < result → same_place s.now (places_of names.now n) p x ≡ true → ⊥)
-        × (result ≤ n → same_place s.now (places_of names.now n) p result ≡ true) }
+    ensures { MatchOption result
+        ((x : ℕ) → q ≤ x → x ≤ n → same_place s.now (places_of names.now n) p x ≡ true → ⊥)
+        (λ r. (q ≤ r) × (r ≤ n)
+        × ((x : ℕ) → q ≤ x → x < r → same_place s.now (places_of names.now n) p x ≡ true → ⊥)
+        × (same_place s.now (places_of names.now n) p r ≡ true)) }
 {
     let key = keys[p];
-    let mut i = q;
-    while i <= n {
-        if keys[i] == key {
-            if model_names::same_place(s, names, p, i) {
-                return i;
-            }
+    for i in q..n + 1 {
+        if keys[i] == key && model_names::same_place(s, names, p, i) {
+            return Some(i);
         }
-        i += 1;
     }
-    i
+    None
 }
 
 // Whether a place after p shares its key. The loop has no way out, so that it goes by several keys at a time.
@@ -58,12 +54,10 @@ pub fn shares_key(keys: &[u32; POSITIONS], n: usize, p: usize) -> bool
 {
     let key = keys[p];
     let mut some = false;
-    let mut x = p + 1;
-    while x <= n {
+    for x in p + 1..n + 1 {
         if keys[x] == key {
             some = true;
         }
-        x += 1;
     }
     some
 }
