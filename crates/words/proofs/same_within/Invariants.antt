@@ -6,6 +6,3 @@ use Rattle.words.proofs.same_within.Given as goal
 
 abbrev pub invariant-loop-k : goal.invariant-loop-k
 invariant-loop-k l = same_text l.s (l.a + l.k) l.t (l.b + l.k) (l.n - l.k) ≡ same_text l.s l.a l.t l.b l.n
-
-abbrev pub decreases-loop-k : goal.decreases-loop-k
-decreases-loop-k l = l.n - l.k
