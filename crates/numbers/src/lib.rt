@@ -32,22 +32,14 @@ pub fn widened(x: u32) -> usize
 pub fn clear_numbers(buffer: &mut [u32])
     ensures { buffer.new ≡ zeroed buffer.old }
 {
-    let mut i = 0;
-    while i < buffer.len() {
-        buffer[i] = 0;
-        i += 1;
-    }
+    buffer.fill(0);
 }
 
 // Every byte of the buffer is 0, those over at its end too.
 pub fn clear_bytes(buffer: &mut [u8])
     ensures { buffer.new ≡ zeroed buffer.old }
 {
-    let mut at = 0;
-    while at < buffer.len() {
-        buffer[at] = 0;
-        at += 1;
-    }
+    buffer.fill(0);
 }
 
 // A number as four bytes, low byte first, from the byte i on.
@@ -66,11 +58,7 @@ pub fn put_numbers(buffer: &mut [u32], table: &[u32], n: usize)
     requires { (n ≤ length table.now) × (n ≤ length buffer.old) }
     ensures { buffer.new ≡ filled_with (take n table.now) buffer.old }
 {
-    let mut k = 0;
-    while k < n {
-        buffer[k] = table[k];
-        k += 1;
-    }
+    buffer[..n].copy_from_slice(&table[..n]);
 }
 
 // The first n numbers of a table, as four bytes each, at the start of a buffer of bytes.
@@ -78,9 +66,7 @@ pub fn put_bytes(buffer: &mut [u8], table: &[u32], n: usize)
     requires { (n ≤ length table.now) × (4 * n ≤ length buffer.old) }
     ensures { buffer.new ≡ filled_with (bytes_of (take n table.now)) buffer.old }
 {
-    let mut k = 0;
-    while k < n {
+    for k in 0..n {
         put_number(buffer, NUMBER * k, table[k]);
-        k += 1;
     }
 }
