@@ -148,7 +148,7 @@ pub fn list(c: Settings, s: &[u8], buffer: &mut [u32]) -> Verdict
     let mut none = [0u8; 0];
     let v = decide(c, s, buffer.len(), buffer, &mut none);
     if v.is_err() {
-        numbers::clear_numbers(buffer);
+        buffer.fill(0);
     }
     v
 }
@@ -161,7 +161,7 @@ pub fn list_to_bytes(c: Settings, s: &[u8], buffer: &mut [u8]) -> Verdict
     let mut none = [0u32; 0];
     let v = decide(c, s, buffer.len() / NUMBER, &mut none, buffer);
     if v.is_err() {
-        numbers::clear_bytes(buffer);
+        buffer.fill(0);
     }
     v
 }

@@ -202,7 +202,7 @@ pub fn read_batch(
         }
         return Answer::InType(Fault { number: 24, at: 0 });
     }
-    numbers::clear_bytes(bytes);
+    bytes.fill(0);
     if inputs::is_offered(c) {
         return Answer::InType(Fault { number: 23, at: 0 });
     }

@@ -39,7 +39,7 @@ pub fn read_part(
     ensures answer_fits { AnswerFits result }
 {
     if !stretches::ends_within(start, size, string.len()) {
-        numbers::clear_bytes(bytes);
+        bytes.fill(0);
         return Err(type_stage::too_long(g));
     }
     let v = followed(g, t, &string[start..start + size], bytes);

@@ -190,7 +190,7 @@ pub fn read(c: Settings, s: &[u8], d: &[u8], buffer: &mut [u32]) -> Answer
     let mut heads = [0u16; ELEMENTS];
     let t = judged(c, s, d, &mut elements, &mut heads);
     let Answer::Accepted(n) = t else {
-        numbers::clear_numbers(buffer);
+        buffer.fill(0);
         return t;
     };
     let r = numbered(c.name_length, c.edition, s, d, &elements, &heads, n, buffer);
@@ -200,7 +200,7 @@ pub fn read(c: Settings, s: &[u8], d: &[u8], buffer: &mut [u32]) -> Answer
     };
     let a = one_document::fitted(v, buffer.len() / EVENT);
     if one_document::refuses(a) {
-        numbers::clear_numbers(buffer);
+        buffer.fill(0);
     }
     a
 }

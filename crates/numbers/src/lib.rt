@@ -1,8 +1,8 @@
-// Numbers and bytes: one of them as an index, a buffer zeroed, and numbers written as they stand or as four bytes each.
+// Numbers and bytes: one of them as an index, and numbers written as they stand or as four bytes each.
 #![tactic(auto)]
 
 ghost use Rattle.std.specs.Prelude.{◌≡◌, ◌∷◌, [], ◌+◌, ◌*◌, ◌≤◌, ◌<◌, length, take};
-ghost use Rattle.rules.specs.Lent.{bytes_of, filled_with, zeroed};
+ghost use Rattle.rules.specs.Lent.{bytes_of, filled_with};
 ghost use Rattle.numbers.specs.Written.{written};
 
 use layout::NUMBER;
@@ -26,20 +26,6 @@ pub fn widened(x: u32) -> usize
     ensures { (result ≡ x) × (result < 4294967296) }
 {
     x as usize
-}
-
-// Every number of the buffer is 0.
-pub fn clear_numbers(buffer: &mut [u32])
-    ensures { buffer.new ≡ zeroed buffer.old }
-{
-    buffer.fill(0);
-}
-
-// Every byte of the buffer is 0, those over at its end too.
-pub fn clear_bytes(buffer: &mut [u8])
-    ensures { buffer.new ≡ zeroed buffer.old }
-{
-    buffer.fill(0);
 }
 
 // A number as four bytes, low byte first, from the byte i on.

@@ -54,7 +54,7 @@ pub fn settled(a: Answer, buffer: &mut [u8]) -> Answer
 {
     let b = fitted(a, buffer.len() / NUMBER / EVENT);
     if b.is_err() {
-        numbers::clear_bytes(buffer);
+        buffer.fill(0);
     }
     b
 }

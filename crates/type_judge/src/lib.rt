@@ -98,7 +98,7 @@ pub fn judge(c: Settings, s: &[u8], buffer: &mut [u32]) -> Verdict
         element_records::whole(elements);
         numbers::put_numbers(buffer, &elements, RECORD * n);
     } else {
-        numbers::clear_numbers(buffer);
+        buffer.fill(0);
     }
     v
 }
@@ -114,7 +114,7 @@ pub fn judge_to_bytes(c: Settings, s: &[u8], buffer: &mut [u8]) -> Verdict
         element_records::whole(elements);
         numbers::put_bytes(buffer, &elements, RECORD * n);
     } else {
-        numbers::clear_bytes(buffer);
+        buffer.fill(0);
     }
     v
 }

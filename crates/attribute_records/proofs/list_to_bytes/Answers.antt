@@ -14,4 +14,4 @@ pub returns : goal.returns
 returns c =
     let a = c.args in
     let d = c.decide-v in
-    listed_refuses bytes (settings_of a.c) a.s.now _ _ _ _ d.result d.ensures _ c.in_default.not-Accepted (zeroed_kept a.buffer.now d.new.bytes d.auto.bytes c.clear_bytes.ensures)
+    listed_refuses bytes (settings_of a.c) a.s.now _ _ _ _ d.result d.ensures _ c.in_default.not-Accepted (zeroed_kept a.buffer.now d.new.bytes d.auto.bytes (c.fill.ensures.after (λ y e. e)))

@@ -18,8 +18,8 @@ returns-then-are_fit c =
 
 pub returns-then-is_offered-2 : goal.returns-then-is_offered-2
 returns-then-is_offered-2 c =
-    record { batched = Batched.unfit c.if-are_fit.ensures (sym c.is_offered-2.ensures ∙ c.if-is_offered-2.true) refl refl c.clear_bytes.ensures; answer_fits = omega arith }
+    record { batched = Batched.unfit c.if-are_fit.ensures (sym c.is_offered-2.ensures ∙ c.if-is_offered-2.true) refl refl (c.fill.ensures.after (λ y e. e)); answer_fits = omega arith }
 
 pub returns : goal.returns
 returns c =
-    record { batched = Batched.not_offered c.if-are_fit.ensures (sym c.is_offered-2.ensures ∙ c.if-is_offered-2.false) refl refl c.clear_bytes.ensures; answer_fits = omega arith }
+    record { batched = Batched.not_offered c.if-are_fit.ensures (sym c.is_offered-2.ensures ∙ c.if-is_offered-2.false) refl refl (c.fill.ensures.after (λ y e. e)); answer_fits = omega arith }

@@ -16,7 +16,7 @@ returns-then-not-ends_within c =
     let a = c.args in
     let r = c.passed.ensures (settings a.long a.edition) a.s.now a.elements.now c.requires.heads c.requires.staged in
     record {
-      part_as = PartAs.passes (leb-false _ _ (sym c.ends_within.ensures ∙ c.if-not-ends_within.true)) r c.clear_bytes.ensures;
+      part_as = PartAs.passes (leb-false _ _ (sym c.ends_within.ensures ∙ c.if-not-ends_within.true)) r (c.fill.ensures.after (λ y e. e));
       answer_fits = part_fits _ _ c.passed.result r;
     }
 

@@ -10,7 +10,7 @@ use Rattle.document_reader.proofs.read.Goals.{in-Events, in-Refused}
 
 pub returns-in_default : goal.returns-in_default
 returns-in_default c =
-    let (r, n) = read_unread (settings_of c.args.c) c.args.s.now c.args.d.now c.judged-t.new.elements c.judged-t.new.heads c.args.buffer.now c.clear_numbers.new.buffer c.judged-t.result c.judged-t.ensures c.in_default.not-Accepted c.clear_numbers.ensures in
+    let (r, n) = read_unread (settings_of c.args.c) c.args.s.now c.args.d.now c.judged-t.new.elements c.judged-t.new.heads c.args.buffer.now c.fill.new.self c.judged-t.result c.judged-t.ensures c.in_default.not-Accepted (c.fill.ensures.after (λ y e. e)) in
     record { read_as = r; count_fits = n }
 
 -- The document is read under the type that is accepted, or refused.
@@ -25,7 +25,7 @@ returns-then-refuses c =
     ] in
     let g = sym c.refuses.ensures ∙ c.if-refuses.true in
     record {
-      read_as = read_refused Lent.numbers _ _ _ c.args.buffer.now c.numbered-r.new.numbers [] [] c.match-r.v c.fitted-a.result h c.numbered-r.auto.numbers c.fitted-a.ensures _ g c.clear_numbers-then-refuses.ensures;
+      read_as = read_refused Lent.numbers _ _ _ c.args.buffer.now c.numbered-r.new.numbers [] [] c.match-r.v c.fitted-a.result h c.numbered-r.auto.numbers c.fitted-a.ensures _ g (c.fill-then-refuses.ensures.after (λ y e. e));
       count_fits = count_fits _ _ _ c.args.buffer.now c.numbered-r.new.numbers [] [] _ c.match-r.v h c.fitted-a.ensures;
     }
 

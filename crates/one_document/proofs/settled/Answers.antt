@@ -9,7 +9,7 @@ pub returns-then-refuses : goal.returns-then-refuses
 returns-then-refuses c settings s d before same h =
     let a = c.args in
     let g = sym c.refuses.ensures ∙ c.if-refuses.true in
-    (read_refused Lent.bytes settings s d [] [] before a.buffer.now a.a c.fitted-b.result h same c.fitted-b.ensures _ g c.clear_bytes.ensures, count_fits settings s d [] [] before a.buffer.now _ a.a h c.fitted-b.ensures)
+    (read_refused Lent.bytes settings s d [] [] before a.buffer.now a.a c.fitted-b.result h same c.fitted-b.ensures _ g (c.fill.ensures.after (λ y e. e)), count_fits settings s d [] [] before a.buffer.now _ a.a h c.fitted-b.ensures)
 
 pub returns-else-refuses : goal.returns-else-refuses
 returns-else-refuses c settings s d before same h =

@@ -28,4 +28,4 @@ pub returns-in_default : goal.returns-in_default
 returns-in_default c =
     let a = c.args in
     let d = c.decide-v in
-    judged_refuses bytes (settings_of a.c) a.s.now a.buffer.now d.new.elements d.new.heads d.result d.ensures _ c.in_default.not-Accepted c.clear_bytes.ensures
+    judged_refuses bytes (settings_of a.c) a.s.now a.buffer.now d.new.elements d.new.heads d.result d.ensures _ c.in_default.not-Accepted (c.fill.ensures.after (λ y e. e))
