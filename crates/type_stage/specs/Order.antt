@@ -1,6 +1,6 @@
 -- Laws of the order: what was judged of the type, with a document of which so much is known.
-use Rattle.std.specs.Prelude.{ℕ, ◌<◌, ◌≤◌, ◌≡◌, refl, true, false, List, ◌⊎◌, length}
-use Rattle.std.proofs.Common.{sym, ap, ◌∙◌, true≢false, inl, inr, arith}
+use Rattle.std.specs.Prelude.{ℕ, ◌<◌, ◌≤◌, ◌≡◌, refl, true, false, List, length, Result, Ok, Err}
+use Rattle.std.proofs.Common.{sym, ap, ◌∙◌, true≢false, arith}
 use Rattle.rules.specs.Settings.{Settings, is_offered}
 use Rattle.rules.specs.Bytes.{type_limit, document_limit}
 use Rattle.rules.specs.Judge.{Answer, refusal, Legible, Refuses}
@@ -10,55 +10,38 @@ use Rattle.rules_laws.specs.Within.{type_file_count}
 use Rattle.layout.specs.Sizes.{RECORDS}
 use Rattle.text.specs.declared.Fault.{Fault}
 use Rattle.inputs.specs.Checks.{RefusesAlways}
-use Rattle.element_records.specs.declared.Clash.{Clash}
+use Rattle.type_judge.specs.declared.TypeFault.{TypeFault}
 use Rattle.type_judge.specs.Decides.{Decides}
-use Rattle.type_judge.specs.declared.Verdict.{Verdict}
-use Rattle.type_judge.specs.declared.Verdict.TheVariants as verdict
-use Rattle.type_stage.specs.declared.Stage.{Stage}
-use Rattle.type_stage.specs.declared.Stage.TheVariants as stage
-use Rattle.type_stage.specs.declared.Ordered.{Ordered}
-use Rattle.type_stage.specs.declared.Ordered.TheVariants as ordered
+use Rattle.type_stage.specs.declared.Stopped.{Stopped}
+use Rattle.type_stage.specs.declared.Stopped.TheVariants.{Unread, Unclean, Judged}
+use Rattle.type_stage.specs.declared.Refused.{Refused}
+use Rattle.type_stage.specs.declared.Refused.TheVariants.{InType, InDocument}
 use Rattle.type_stage.specs.Stages.{Staged, OrderedAs, PartRefused, alone_of, is_unclean}
 
--- The tag of the first stage is none of the others.
-pub not_first : (◌≡◌ {A = ℕ} 0 1) ⊎ ((◌≡◌ {A = ℕ} 0 2) ⊎ ((◌≡◌ {A = ℕ} 0 3) ⊎ (◌≡◌ {A = ℕ} 0 4))) → ⊥
-not_first (inl e) = omega arith
-not_first (inr (inl e)) = omega arith
-not_first (inr (inr (inl e))) = omega arith
-not_first (inr (inr (inr e))) = omega arith
-
 -- The verdict on a legible type is its stage.
-module _ {c : Settings} {s : List ℕ} (elements heads : List ℕ) (t : Legible c s) (v : Verdict) (decided : Legible c s → Decides c s RECORDS elements heads v) where
-  verdict_is : Decides c s RECORDS elements heads v
-  verdict_is = decided t
-
-  pub staged_accepted : (n : ℕ) → v ≡ verdict.Accepted n → Staged c s elements heads (stage.Accepted n)
+module _ {c : Settings} {s : List ℕ} (elements heads : List ℕ) (t : Legible c s) (v : Result ℕ TypeFault) (decided : Legible c s → Decides c s RECORDS elements heads v) where
+  pub staged_accepted : (n : ℕ) → v ≡ Ok n → Staged c s elements heads (Ok n)
   staged_accepted n e =
-      let (es, a, k, room, few, w, l) = rw e at verdict_is in
+      let (es, a, k, room, few, w, l) = rw e at (decided t) in
       (es, a, sym k, w, l)
 
-  pub staged_malformed : (f : Fault) → v ≡ verdict.Malformed f → Staged c s elements heads (stage.Malformed f)
-  staged_malformed f e = (t, rw e at verdict_is)
-
-  pub staged_ambiguous : (x : Clash) → v ≡ verdict.Ambiguous x → Staged c s elements heads (stage.Ambiguous x)
-  staged_ambiguous x e = (t, rw e at verdict_is)
+  pub staged_judged : (x : TypeFault) → v ≡ Err x → Staged c s elements heads (Err (Judged x))
+  staged_judged x e = (t, rw e at (decided t))
 
 module _ (c : Settings) (s elements heads : List ℕ) where
   -- Nothing that comes before a document's 1 is wrong with the type.
-  pub staged_offered : (g : Stage) → ((f : Fault) → g ≡ stage.Unread f → ⊥) → Staged c s elements heads g → (is_offered c ≡ true) × (length s ≤ type_limit)
-  staged_offered (stage.Unread f) other h = absurd (other f refl)
-  staged_offered (stage.Unclean f) other h = (h.0, h.1)
-  staged_offered (stage.Malformed f) other h = (h.0.offered, h.0.short)
-  staged_offered (stage.Ambiguous x) other h = (h.0.offered, h.0.short)
-  staged_offered (stage.Accepted n) other (es, a, k, w, l) = (a.legible.offered, a.legible.short)
+  pub staged_offered : (g : Result ℕ Stopped) → ((f : Fault) → g ≡ Err (Unread f) → ⊥) → Staged c s elements heads g → (is_offered c ≡ true) × (length s ≤ type_limit)
+  staged_offered (Err (Unread f)) other h = absurd (other f refl)
+  staged_offered (Err (Unclean f)) other h = (h.0, h.1)
+  staged_offered (Err (Judged x)) other h = (h.0.offered, h.0.short)
+  staged_offered (Ok n) other (es, a, k, w, l) = (a.legible.offered, a.legible.short)
 
   -- Nothing that comes before a document's 2 is.
-  pub staged_legible : (g : Stage) → is_unclean g ≡ false → Staged c s elements heads g → Legible c s
-  staged_legible (stage.Unread f) e h = absurd (true≢false e)
-  staged_legible (stage.Unclean f) e h = absurd (true≢false e)
-  staged_legible (stage.Malformed f) e h = h.0
-  staged_legible (stage.Ambiguous x) e h = h.0
-  staged_legible (stage.Accepted n) e (es, a, k, w, l) = a.legible
+  pub staged_legible : (g : Result ℕ Stopped) → is_unclean g ≡ false → Staged c s elements heads g → Legible c s
+  staged_legible (Err (Unread f)) e h = absurd (true≢false e)
+  staged_legible (Err (Unclean f)) e h = absurd (true≢false e)
+  staged_legible (Err (Judged x)) e h = h.0
+  staged_legible (Ok n) e (es, a, k, w, l) = a.legible
 
   module _ (d : List ℕ) where
     -- A part's refusal is that of every document that is too long; what comes before that is every document's.
@@ -72,18 +55,15 @@ module _ (c : Settings) (s elements heads : List ℕ) where
     type_always n k (type_too_long o m e) room = RefusesBoth.type_too_long o m e
     type_always n k (passes_end o m e) room = absurd (omega (arith, ap (λ (a : Answer). a.input) e))
 
-    pub too_long : (g : Stage) (r : Ordered) → PartRefused c s r → document_limit < length d → OrderedAs c s d g r
-    too_long g (ordered.Read n) h l = absurd h
-    too_long g (ordered.InType f) h l = part_always _ h l
-    too_long g (ordered.Ambiguous x) h l = absurd h
-    too_long g (ordered.InDocument f) h l = part_always _ h l
+    pub too_long : (g : Result ℕ Stopped) (r : Refused) → PartRefused c s r → document_limit < length d → OrderedAs c s d g (Err r)
+    too_long g (InType x) h l = part_always _ h l
+    too_long g (InDocument f) h l = part_always _ h l
 
-    pub unclean_alone : (g : Stage) → is_unclean g ≡ true → Staged c s elements heads g → length d ≤ document_limit → OrderedAs c s d g (alone_of g)
-    unclean_alone (stage.Unread f) e h l = type_always f.number f.at h
-    unclean_alone (stage.Unclean f) e (o, m, u, n, k) l = λ room. RefusesBoth.type_not_allowed o m l u (rw (n, k))
-    unclean_alone (stage.Malformed f) e h l = absurd (true≢false (sym e))
-    unclean_alone (stage.Ambiguous x) e h l = absurd (true≢false (sym e))
-    unclean_alone (stage.Accepted n) e h l = absurd (true≢false (sym e))
+    pub unclean_alone : (g : Result ℕ Stopped) → is_unclean g ≡ true → Staged c s elements heads g → length d ≤ document_limit → OrderedAs c s d g (alone_of g)
+    unclean_alone (Err (Unread f)) e h l = type_always f.number f.at h
+    unclean_alone (Err (Unclean f)) e (o, m, u, n, k) l = λ room. RefusesBoth.type_not_allowed o m l u (rw (n, k))
+    unclean_alone (Err (Judged x)) e h l = absurd (true≢false (sym e))
+    unclean_alone (Ok n) e h l = absurd (true≢false (sym e))
 
     module _ (b : BothLegible c s d) where
       type_refused : (a : Answer) → Refuses c s RECORDS a → RefusesAlways c s d a
@@ -95,9 +75,8 @@ module _ (c : Settings) (s elements heads : List ℕ) where
       type_refused a (Refuses.ambiguous l es r v k p q f e) room = RefusesBoth.ambiguous b es r v k p q f e
       type_refused a (Refuses.no_room l es r v u m e) room = absurd (omega (arith, type_file_count c.name_length s es r))
 
-      pub legible_alone : (g : Stage) → is_unclean g ≡ false → Staged c s elements heads g → OrderedAs c s d g (alone_of g)
-      legible_alone (stage.Unread f) e h = absurd (true≢false e)
-      legible_alone (stage.Unclean f) e h = absurd (true≢false e)
-      legible_alone (stage.Malformed f) e h = type_refused _ h.1
-      legible_alone (stage.Ambiguous x) e h = type_refused _ h.1
-      legible_alone (stage.Accepted n) e h = (b, refl)
+      pub legible_alone : (g : Result ℕ Stopped) → is_unclean g ≡ false → Staged c s elements heads g → OrderedAs c s d g (alone_of g)
+      legible_alone (Err (Unread f)) e h = absurd (true≢false e)
+      legible_alone (Err (Unclean f)) e h = absurd (true≢false e)
+      legible_alone (Err (Judged x)) e h = type_refused _ h.1
+      legible_alone (Ok n) e h = (b, refl)
