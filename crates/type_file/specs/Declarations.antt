@@ -1,5 +1,5 @@
 -- Laws of the rules' declarations: each way that reading of one goes.
-use Rattle.std.specs.Prelude.{ℕ, ◌+◌, ◌-◌, ◌≤◌, ◌<◌, ◌≡◌, refl, true, false, List, length}
+use Rattle.std.specs.Prelude.{ℕ, ◌+◌, ◌-◌, ◌≤◌, ◌<◌, ◌≡◌, refl, true, false, List, length, Result, Ok, Err}
 use Rattle.std.proofs.Common.{sym, ap, ◌∙◌, true≢false, arith}
 use Rattle.std.proofs.Math.Decide.{ℕ_discrete}
 use borrow.Author.Tests.{ne_eqb, lt-ltb, le-ltb}
@@ -7,45 +7,38 @@ use Rattle.rules.specs.Bytes.{byte_at, letter, name_end, DSO, EXCLAMATION, MDC, 
 use Rattle.rules.specs.Reading.{Reading, refused, got, and_then}
 use Rattle.rules.specs.Attributes.{AttList}
 use Rattle.rules.specs.TypeFile.{Element, Declared, Declarations, at_dashes, is_word, ELEMENT, ATTLIST, comment_declaration, element, attribute_list, keyword, markup, declaration}
-use Rattle.text.specs.Refusal.{reached, fault_of}
+use Rattle.text.specs.Refusal.{refusal_of}
 use Rattle.text.specs.Words.{comment_range, is_word_other}
 use Rattle.text.specs.declared.Fault.{Fault}
-use Rattle.text.specs.declared.Reached.{Reached}
-use Rattle.text.specs.declared.Reached.TheVariants as reached_as
 use Rattle.element_records.specs.declared.Progress.{Progress}
-use Rattle.element_records.specs.declared.Step.{Step}
-use Rattle.element_records.specs.declared.Step.TheVariants.{Read, Refused}
 use Rattle.element_records.specs.Progress.{KeepsProgress, MeetsStep}
 use Rattle.attribute_lists.specs.Listed.{Headed, ListsAs, MeetsLists}
 use Rattle.type_file.specs.File.{MeetsDeclarations}
 
 -- A step that was refused, that goes on with the same elements and lists, and that read an element further on.
 module _ (long : ℕ) (s elements heads : List ℕ) where
-  pub step_refused : (from n k : ℕ) (x : Reading Declarations) (r : Step) → x ≡ refused n k → r ≡ Refused (record { number = n; at = k }) → MeetsDeclarations long s elements heads from r x
-  step_refused from n k x r e q = rw (e, q) (refl, refl)
+  pub step_refused : (from n k : ℕ) (x : Reading Declarations) (f : Fault) → x ≡ refused n k → f ≡ record { number = n; at = k } → MeetsDeclarations long s elements heads from (Err f) x
+  step_refused from n k x f e q = rw (e, q) (refl, refl)
 
-  pub step_onward : (from j : ℕ) (p : Progress) (es : List Element) (ls : List AttList) (x : Reading Declarations) (r : Step) → KeepsProgress s elements p es → Headed long s heads ls
-      → x ≡ got (record { elements = es; lists = ls; at = j }) → r ≡ Read (record { at = j; count = p.count; clash = p.clash; repeated = p.repeated }) → from < j → j ≤ length s → MeetsDeclarations long s elements heads from r x
-  step_onward from j p es ls x r k h e q f l =
-      rw (e, q) (record { counted = k.counted; room = k.room; recorded = k.recorded; at_in = l; repeated_at = k.repeated_at; pending = k.pending }, h, refl, f)
+  pub step_onward : (from j : ℕ) (p : Progress) (es : List Element) (ls : List AttList) (x : Reading Declarations) (q : Progress) → KeepsProgress s elements p es → Headed long s heads ls
+      → x ≡ got (record { elements = es; lists = ls; at = j }) → q ≡ record p { at = j } → from < j → j ≤ length s → MeetsDeclarations long s elements heads from (Ok q) x
+  step_onward from j p es ls x q k h e w f l =
+      rw (e, w) (record { counted = k.counted; room = k.room; recorded = k.recorded; at_in = l; repeated_at = k.repeated_at; pending = k.pending }, h, refl, f)
 
-  pub step_element : (from to : ℕ) (ls : List AttList) → from ≤ to → Headed long s heads ls → (r : Step) (x : Reading Declared) → MeetsStep s elements to r x
+  pub step_element : (from to : ℕ) (ls : List AttList) → from ≤ to → Headed long s heads ls → (r : Result Progress Fault) (x : Reading Declared) → MeetsStep s elements to r x
       → MeetsDeclarations long s elements heads from r (and_then x λ d. got (record { elements = d.elements; lists = ls; at = d.at }))
-  step_element from to ls l h (Read p) (got d) m = (m.0, h, m.1, omega (arith, m.2))
-  step_element from to ls l h (Read p) (refused n k) m = m
-  step_element from to ls l h (Refused f) (got d) m = m
-  step_element from to ls l h (Refused f) (refused n k) m = m
+  step_element from to ls l h (Ok p) (got d) m = (m.0, h, m.1, omega (arith, m.2))
+  step_element from to ls l h (Ok p) (refused n k) m = m
+  step_element from to ls l h (Err f) (got d) m = m
+  step_element from to ls l h (Err f) (refused n k) m = m
 
-  -- An attribute list that was read, or refused.
-  module _ (from : ℕ) (p : Progress) (es : List Element) (r : Reached) (x : Reading Declarations) (read : MeetsLists long s heads es r x) where
-    pub list_refused : (f g : Fault) → r ≡ reached_as.Refused f → g ≡ fault_of r → MeetsDeclarations long s elements heads from (Refused g) x
-    list_refused f g e q = rw (rw e at read, q, e) (refl, refl)
+  -- An attribute list that was refused, or read.
+  pub list_refused : (from : ℕ) (es : List Element) (x : Reading Declarations) (f : Fault) (z : Result Progress Fault) → MeetsLists long s heads es (Err f) x → z ≡ Err f → MeetsDeclarations long s elements heads from z x
+  list_refused from es x f z e q = rw (q, e) (refl, refl)
 
-    pub list_onward : (j : ℕ) (z : Step) → r ≡ reached_as.At j → KeepsProgress s elements p es → z ≡ Read (record { at = j; count = p.count; clash = p.clash; repeated = p.repeated }) → from < j → j ≤ length s
-        → MeetsDeclarations long s elements heads from z x
-    list_onward j z e k w f l =
-        let a : ListsAs long s heads es j x = rw e at read in
-        step_onward from j p es a.lists x z k a.headed a.read w f l
+  pub list_onward : (from j : ℕ) (p : Progress) (es : List Element) (x : Reading Declarations) (q : Progress) → MeetsLists long s heads es (Ok j) x → KeepsProgress s elements p es → q ≡ record p { at = j } → from < j → j ≤ length s
+      → MeetsDeclarations long s elements heads from (Ok q) x
+  list_onward from j p es x q a k w f l = step_onward from j p es a.lists x q k a.headed a.read w f l
 
 -- Keywords, the one at i ending at e.
 module _ (long : ℕ) (s : List ℕ) (i e : ℕ) (es : List Element) (ls : List AttList) (ends : e ≡ name_end s (i + 2)) where
@@ -115,16 +108,16 @@ comment_opens s i b d =
     let n : i + 2 + 1 ≡ i + 3 = omega arith in
     rw (b, n, d)
 
-module _ (long : ℕ) (s elements heads : List ℕ) (i : ℕ) (p : Progress) (es : List Element) (ls : List AttList) (r : Reached) (x : Reading Declarations)
-    (read : x ≡ and_then (reached r) (λ j. got (record { elements = es; lists = ls; at = j }))) where
-  pub comment_refused : (f g : Fault) → r ≡ reached_as.Refused f → g ≡ fault_of r → MeetsDeclarations long s elements heads i (Refused g) x
-  comment_refused f g e q = rw (read, q, e) (refl, refl)
+module _ (long : ℕ) (s elements heads : List ℕ) (i : ℕ) (es : List Element) (ls : List AttList) (y : Reading ℕ) (x : Reading Declarations)
+    (read : x ≡ and_then y (λ j. got (record { elements = es; lists = ls; at = j }))) where
+  pub comment_refused : (f : Fault) (z : Result Progress Fault) → refusal_of f ≡ y → z ≡ Err f → MeetsDeclarations long s elements heads i z x
+  comment_refused f z e q = rw (read, ← e, q) (refl, refl)
 
-  pub comment_onward : (j : ℕ) (z : Step) → at_dashes s (i + 2) ≡ true → r ≡ reached_as.At j → reached r ≡ comment_declaration s (i + 2) → KeepsProgress s elements p es → Headed long s heads ls
-      → z ≡ Read (record { at = j; count = p.count; clash = p.clash; repeated = p.repeated }) → MeetsDeclarations long s elements heads i z x
-  comment_onward j z d e m k h w =
-      let l = comment_range s (i + 2) d j (sym m ∙ ap reached e) in
-      step_onward long s elements heads i j p es ls x z k h (read ∙ rw e) w (omega arith) l.1
+  pub comment_onward : (j : ℕ) (p : Progress) (q : Progress) → at_dashes s (i + 2) ≡ true → got j ≡ y → y ≡ comment_declaration s (i + 2) → KeepsProgress s elements p es → Headed long s heads ls
+      → q ≡ record p { at = j } → MeetsDeclarations long s elements heads i (Ok q) x
+  comment_onward j p q d e m k h w =
+      let l = comment_range s (i + 2) d j (sym m ∙ sym e) in
+      step_onward long s elements heads i j p es ls x q k h (read ∙ rw (sym e)) w (omega arith) l.1
 
 -- What stands at i, where a declaration may begin: the byte b.
 module _ (long : ℕ) (s : List ℕ) (i b : ℕ) (es : List Element) (ls : List AttList) (read : b ≡ byte_at s i) where

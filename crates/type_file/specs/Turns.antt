@@ -1,5 +1,5 @@
 -- Laws of the rules' type file, declaration by declaration.
-use Rattle.std.specs.Prelude.{ℕ, zero, suc, ◌+◌, ◌*◌, ◌≤◌, ◌<◌, ◌≡◌, length, take, replicate, eqb}
+use Rattle.std.specs.Prelude.{ℕ, zero, suc, Option, Some, None, Result, Ok, Err, ◌+◌, ◌*◌, ◌≤◌, ◌<◌, ◌≡◌, length, take, replicate, eqb}
 use Rattle.std.proofs.Math.Path.{refl, ap}
 use Rattle.std.proofs.Common.{sym, ◌∙◌, inl, inr, arith}
 use Rattle.std.proofs.Math.Bool.{true, false}
@@ -14,8 +14,7 @@ use Rattle.text.specs.Words.{separators_end_from}
 use Rattle.text.specs.declared.Fault.{Fault}
 use Rattle.element_records.specs.declared.Clash.{Clash}
 use Rattle.element_records.specs.declared.Progress.{Progress}
-use Rattle.element_records.specs.declared.Step.{Step}
-use Rattle.element_records.specs.declared.Step.TheVariants.{Read, Refused}
+use Rattle.element_content.specs.Kept.{place}
 use Rattle.element_records.specs.Progress.{Pending, KeepsProgress}
 use Rattle.attribute_lists.specs.Listed.{Headed, HeadedAs}
 use Rattle.attribute_lists.specs.Heads.{headed_none, headed_all}
@@ -45,9 +44,9 @@ module _ (ls : List AttList) where
     listed_ambiguous k (here x) = here x
     listed_ambiguous k (later u f) = later u (listed_ambiguous (k + 1) f)
 
-    listed_pending : (x : Clash) (es : List Element) → Pending s x es → Pending s x (listed 1 ls es)
-    listed_pending x es (inl (z, a)) = inl (z, listed_unambiguous 1 es a)
-    listed_pending x es (inr (z, f)) = inr (z, listed_ambiguous 1 f)
+    listed_pending : (x : Option Clash) (es : List Element) → Pending s x es → Pending s x (listed 1 ls es)
+    listed_pending None es a = listed_unambiguous 1 es a
+    listed_pending (Some x) es f = listed_ambiguous 1 f
 
     listed_keeps : (elements : List ℕ) (p : Progress) (es : List Element) → KeepsProgress s elements p es → KeepsProgress s elements p (listed 1 ls es)
     listed_keeps elements p es k =
@@ -57,7 +56,7 @@ module _ (ls : List AttList) where
           room = omega (arith, k.room);
           recorded = ap (λ (m : ℕ). take (record_width * m) elements) n ∙ k.recorded ∙ sym (listed_records 1 es);
           at_in = k.at_in;
-          repeated_at = k.repeated_at ∙ sym (listed_repeated 1 es);
+          repeated_at = k.repeated_at ∙ ap place (sym (listed_repeated 1 es));
           pending = λ z. listed_pending p.clash es (k.pending (sym (listed_repeated 1 es) ∙ z));
         }
 
@@ -89,25 +88,25 @@ pub record ReadsOn (long : ℕ) (s elements heads : List ℕ) (p : Progress) : T
   pub still : elements_of (declarations_within long (suc turns) s p.at so_far lists) ≡ type_file long s
   pub enough : length s ≤ turns + p.at
 
-pub reads_start : (long : ℕ) (s elements heads : List ℕ) → heads ≡ replicate element_limit 0 → ReadsOn long s elements heads (record { at = 0; count = 0; clash = record { at = 0; first = 0; second = 0 }; repeated = 0 })
+pub reads_start : (long : ℕ) (s elements heads : List ℕ) → heads ≡ replicate element_limit 0 → ReadsOn long s elements heads (record { at = 0; count = 0; clash = None; repeated = None })
 unfolding type_file records first_repeated
 reads_start long s elements heads e =
     record {
       so_far = [];
       lists = [];
       turns = length s;
-      keeps = record { counted = refl; room = omega arith; recorded = refl; at_in = omega arith; repeated_at = refl; pending = λ z. inl (refl, tt) };
+      keeps = record { counted = refl; room = omega arith; recorded = refl; at_in = omega arith; repeated_at = refl; pending = λ z. tt };
       headed = headed_none long s e;
       still = refl;
       enough = omega arith;
     }
 
 module _ (long : ℕ) (s elements heads : List ℕ) (p : Progress) (a : ReadsOn long s elements heads p) where
-  pub reads_none : (i : ℕ) (r : Step) → i ≡ separators_end s p.at → length s ≤ i → p.count ≡ 0 → r ≡ Refused (record { number = 8; at = length s }) → MeetsFile long s elements heads r (type_file long s)
-  reads_none i r e h z q =
+  pub reads_none : (i : ℕ) (f : Fault) → i ≡ separators_end s p.at → length s ≤ i → p.count ≡ 0 → f ≡ record { number = 8; at = length s } → MeetsFile long s elements heads (Err f) (type_file long s)
+  reads_none i f e h z q =
       rw (← a.still, file_none long a.turns s p.at a.so_far a.lists (rw e at h) (sym a.keeps.counted ∙ z), q) (refl, refl)
 
-  pub reads_end : (i : ℕ) → i ≡ separators_end s p.at → length s ≤ i → (p.count ≡ 0 → ⊥) → MeetsFile long s elements heads (Read p) (type_file long s)
+  pub reads_end : (i : ℕ) → i ≡ separators_end s p.at → length s ≤ i → (p.count ≡ 0 → ⊥) → MeetsFile long s elements heads (Ok p) (type_file long s)
   reads_end i e h z =
       rw (← a.still, file_end long a.turns s p.at a.so_far a.lists (rw e at h) (λ n. z (a.keeps.counted ∙ n)))
       (listed_keeps a.lists s elements p a.so_far a.keeps, headed_all a.headed a.so_far)
@@ -120,15 +119,15 @@ module _ (long : ℕ) (s elements heads : List ℕ) (p : Progress) (a : ReadsOn 
     goes_on = sym a.still ∙ ap elements_of (file_more long a.turns s p.at a.so_far a.lists i e h)
 
     module _ (now after : List ℕ) where
-      pub reads_refused : (r : Step) (f : Fault) → r ≡ Refused f → MeetsDeclarations long s now after i r (declaration long s i a.so_far a.lists) → MeetsFile long s now after r (type_file long s)
-      reads_refused r f o m = rw (goes_on, o) (by_declaration (declaration long s i a.so_far a.lists) (rw o at m))
+      pub reads_refused : (f : Fault) (z : Result Progress Fault) → MeetsDeclarations long s now after i (Err f) (declaration long s i a.so_far a.lists) → z ≡ Err f → MeetsFile long s now after z (type_file long s)
+      reads_refused f z m o = rw (goes_on, o) (by_declaration (declaration long s i a.so_far a.lists) m)
         where
-          by_declaration : (x : Reading Declarations) → MeetsDeclarations long s now after i (Refused f) x → MeetsFile long s now after (Refused f) (Then x)
+          by_declaration : (x : Reading Declarations) → MeetsDeclarations long s now after i (Err f) x → MeetsFile long s now after (Err f) (Then x)
           by_declaration (refused n k) m = m
           by_declaration (got d) m = absurd m
 
-      pub reads_turn : (r : Step) (q : Progress) → r ≡ Read q → MeetsDeclarations long s now after i r (declaration long s i a.so_far a.lists) → ReadsOn long s now after q × (p.at < q.at) × (q.at ≤ length s)
-      reads_turn r q o m = by_declaration (declaration long s i a.so_far a.lists) (rw o at m) goes_on
+      pub reads_turn : (q : Progress) → MeetsDeclarations long s now after i (Ok q) (declaration long s i a.so_far a.lists) → ReadsOn long s now after q × (p.at < q.at) × (q.at ≤ length s)
+      reads_turn q m = by_declaration (declaration long s i a.so_far a.lists) m goes_on
         where
           fewer : (t : ℕ) (d : Declarations) → a.turns ≡ suc t → KeepsProgress s now q d.elements → Headed long s after d.lists → q.at ≡ d.at → i < d.at → type_file long s ≡ Then (got d) → ReadsOn long s now after q
           fewer t d z k v w l y =
@@ -146,16 +145,16 @@ module _ (long : ℕ) (s elements heads : List ℕ) (p : Progress) (a : ReadsOn 
           by_turns zero d z k v w l y = absurd (omega (arith, a.enough, separators_end_from s p.at))
           by_turns (suc t) d z k v w l y = fewer t d z k v w l y
 
-          by_declaration : (x : Reading Declarations) → MeetsDeclarations long s now after i (Read q) x → type_file long s ≡ Then x → ReadsOn long s now after q × (p.at < q.at) × (q.at ≤ length s)
+          by_declaration : (x : Reading Declarations) → MeetsDeclarations long s now after i (Ok q) x → type_file long s ≡ Then x → ReadsOn long s now after q × (p.at < q.at) × (q.at ≤ length s)
           by_declaration (refused n k) m y = absurd m
           by_declaration (got d) m y =
               (by_turns a.turns d refl m.0 m.1 m.2 m.3 y, omega (arith, m.2, m.3, separators_end_from s p.at), m.0.at_in)
 
 -- The elements, where the type file was read.
-pub file_kept : (long : ℕ) (s elements heads : List ℕ) (r : Step) → MeetsFile long s elements heads r (type_file long s) → (p : Progress) → r ≡ Read p
+pub file_kept : (long : ℕ) (s elements heads : List ℕ) (p : Progress) → MeetsFile long s elements heads (Ok p) (type_file long s)
     → (es : List Element) × (type_file long s ≡ got es) × KeepsProgress s elements p es × HeadedAs long s heads es
-file_kept long s elements heads r m p e = by_reading (type_file long s) refl (rw e at m)
+file_kept long s elements heads p m = by_reading (type_file long s) refl m
   where
-    by_reading : (x : Reading (List Element)) → type_file long s ≡ x → MeetsFile long s elements heads (Read p) x → (es : List Element) × (type_file long s ≡ got es) × KeepsProgress s elements p es × HeadedAs long s heads es
+    by_reading : (x : Reading (List Element)) → type_file long s ≡ x → MeetsFile long s elements heads (Ok p) x → (es : List Element) × (type_file long s ≡ got es) × KeepsProgress s elements p es × HeadedAs long s heads es
     by_reading (refused n k) y h = absurd h
     by_reading (got es) y h = (es, y, h.0, h.1)

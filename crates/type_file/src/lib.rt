@@ -12,7 +12,7 @@ ghost use Rattle.attribute_lists.specs.Listed.{Headed};
 ghost use Rattle.element_records.specs.Progress.{KeepsProgress, InProgress};
 ghost use Rattle.type_file.specs.File.{MeetsDeclarations, MeetsFile};
 
-use element_records::{Clash, Progress};
+use element_records::Progress;
 use layout::{ELEMENTS, MODEL, NAMES, RECORDS};
 use text::{Reading, Refusal};
 
@@ -138,12 +138,8 @@ pub fn file_read(
     let mut p = Progress {
         at: 0,
         count: 0,
-        clash: Clash {
-            at: 0,
-            first: 0,
-            second: 0,
-        },
-        repeated: 0,
+        clash: None,
+        repeated: None,
     };
     loop {
         let i = text::separators_end(s, p.at);
