@@ -1,8 +1,8 @@
 -- Attributes that are kept: one more is written behind those before, and they are the first of the tag.
-use Prim.Native.Nat.{ℕ, zero, suc, ◌+◌, ◌*◌, ◌≤◌, ◌<◌}
-use Rattle.std.specs.Prelude.{◌≡◌, refl, Bool, true, false, get_or, set, ltb}
+use Prim.Native.Nat.{ℕ, zero, suc, ◌+◌, ◌≤◌, ◌<◌}
+use Rattle.std.specs.Prelude.{◌≡◌, refl, Bool, true, false, ltb}
 use Rattle.std.proofs.Math.Path.{sym, ap}
-use Rattle.std.proofs.Common.{◌∙◌, subst, arith, length-set, get_or-set_same, get_or-set_other, take_all, length-take-le, ltb-true, ltb-false}
+use Rattle.std.proofs.Common.{◌∙◌, subst, arith, take_all, length-take-le, ltb-true, ltb-false}
 use mathlib.Core.List.{List, [], ◌∷◌, ◌++◌}
 use Rattle.std.proofs.Math.Decide.{ℕ_discrete}
 use Rattle.std.proofs.Math.Numerals.{add-one}
@@ -10,73 +10,8 @@ use Rattle.std.proofs.Math.ListN.{length, take, length-append}
 use Rattle.std.proofs.lemmas.List.{take-append-le}
 use Rattle.rules.specs.Bytes.{ATTCNT}
 use Rattle.rules.specs.Document as rules
-use Rattle.layout.specs.Sizes.{WRITTEN, GIVEN}
 use Rattle.tag_attributes.specs.declared.Written.{Written}
 use Rattle.tag_attributes.specs.Given.{written_as, kept_in, kept_of, KeptAs, WrittenIn, GivenIn, Keeps}
-
--- An attribute, number by number.
-pub written_is : {a b q n : ℕ} (w : Written) → a ≡ w.name → b ≡ w.size → q ≡ w.quote → n ≡ w.width → ◌≡◌ {A = Written} (record { name = a; size = b; quote = q; width = n }) w
-written_is w p r t u = rw (p, r, t, u)
-
--- The four numbers from i on are those of w.
-abbrev pub put_written : List ℕ → ℕ → Written → List ℕ
-put_written g i w = set (set (set (set g i w.name) (i + 1) w.size) (i + 2) w.quote) (i + 3) w.width
-
-module _ (g : List ℕ) (i : ℕ) (w : Written) where
-  abbrev g1 : List ℕ
-  g1 = set g i w.name
-
-  abbrev g2 : List ℕ
-  g2 = set g1 (i + 1) w.size
-
-  abbrev g3 : List ℕ
-  g3 = set g2 (i + 2) w.quote
-
-  put_before : (j : ℕ) → j < i → get_or (put_written g i w) j 0 ≡ get_or g j 0
-  put_before j h =
-      get_or-set_other g3 (i + 3) j w.width 0 (omega (arith, h)) ∙ get_or-set_other g2 (i + 2) j w.quote 0 (omega (arith, h)) ∙ get_or-set_other g1 (i + 1) j w.size 0 (omega (arith, h))
-      ∙ get_or-set_other g i j w.name 0 (omega (arith, h))
-
-  module _ (room : i + 3 < length g) where
-    long1 : length g1 ≡ length g
-    long1 = length-set g i w.name
-
-    long2 : length g2 ≡ length g
-    long2 = length-set g1 (i + 1) w.size ∙ long1
-
-    long3 : length g3 ≡ length g
-    long3 = length-set g2 (i + 2) w.quote ∙ long2
-
-    put_name : get_or (put_written g i w) i 0 ≡ w.name
-    put_name =
-        get_or-set_other g3 (i + 3) i w.width 0 (omega arith) ∙ get_or-set_other g2 (i + 2) i w.quote 0 (omega arith) ∙ get_or-set_other g1 (i + 1) i w.size 0 (omega arith)
-        ∙ get_or-set_same g i w.name 0 (omega (arith, room))
-
-    put_size : get_or (put_written g i w) (i + 1) 0 ≡ w.size
-    put_size = get_or-set_other g3 (i + 3) (i + 1) w.width 0 (omega arith) ∙ get_or-set_other g2 (i + 2) (i + 1) w.quote 0 (omega arith) ∙ get_or-set_same g1 (i + 1) w.size 0 (omega (arith, room, long1))
-
-    put_quote : get_or (put_written g i w) (i + 2) 0 ≡ w.quote
-    put_quote = get_or-set_other g3 (i + 3) (i + 2) w.width 0 (omega arith) ∙ get_or-set_same g2 (i + 2) w.quote 0 (omega (arith, room, long2))
-
-    put_length : get_or (put_written g i w) (i + 3) 0 ≡ w.width
-    put_length = get_or-set_same g3 (i + 3) w.width 0 (omega (arith, room, long3))
-
-module _ (g : List ℕ) (n : ℕ) (w : Written) where
-  pub keeps_more : length g ≡ GIVEN → n ≤ ATTCNT → Keeps g n w (put_written g (WRITTEN * n) w) (n + 1)
-  keeps_more long h =
-      let room : WRITTEN * n + 3 < length g = omega arith in
-      record {
-        more = λ x. (
-          refl,
-          written_is w (put_name g (WRITTEN * n) w room) (put_size g (WRITTEN * n) w room) (put_quote g (WRITTEN * n) w room) (put_length g (WRITTEN * n) w room),
-          λ k l. written_is (kept_in g k) (put_before g (WRITTEN * n) w (WRITTEN * k) (omega (arith, l))) (put_before g (WRITTEN * n) w (WRITTEN * k + 1) (omega (arith, l))) (put_before g (WRITTEN * n) w (WRITTEN * k + 2) (omega (arith, l)))
-              (put_before g (WRITTEN * n) w (WRITTEN * k + 3) (omega (arith, l))),
-        );
-        enough = λ x. absurd (omega (arith, h, x));
-      }
-
-  pub keeps_all : ATTCNT < n → Keeps g n w g n
-  keeps_all h = record { more = λ x. absurd (omega (arith, h, x)); enough = λ x. (refl, refl) }
 
 -- None is kept yet.
 pub kept_none : (g : List ℕ) → KeptAs g 0 []

@@ -51,19 +51,13 @@ pub fn specification_at(long: usize, classes: &[u8; 256], s: &[u8], i: usize) ->
     if long < e - i {
         return Err(Refusal::NameTooLong.at(i));
     }
-    let mut j = e;
+    let j = text::separators_end(s, e);
     if text::byte(s, j) != b'=' {
-        j = text::separators_end(s, j);
-        if text::byte(s, j) != b'=' {
-            return Err(Refusal::Malformed.at(j));
-        }
+        return Err(Refusal::Malformed.at(j));
     }
-    let mut k = j + 1;
+    let k = text::separators_end(s, j + 1);
     if !literals::is_quote(text::byte(s, k)) {
-        k = text::separators_end(s, k);
-        if !literals::is_quote(text::byte(s, k)) {
-            return Err(Refusal::Malformed.at(k));
-        }
+        return Err(Refusal::Malformed.at(k));
     }
     let q = literals::literal_end(s, k)?;
     Ok(Written {
