@@ -1,5 +1,5 @@
 -- What the events of a document are, and what the loop over its tokens leaves, in the rules' terms.
-use Rattle.std.specs.Prelude.{ℕ, ◌*◌, ◌≤◌, ◌<◌, ◌≡◌, List, length}
+use Rattle.std.specs.Prelude.{ℕ, ◌*◌, ◌≤◌, ◌<◌, ◌≡◌, List, length, Result, Ok, Err}
 use Rattle.rules.specs.Settings.{Settings}
 use Rattle.rules.specs.Reading.{refused, got}
 use Rattle.rules.specs.TypeFile.{Element}
@@ -10,6 +10,9 @@ use Rattle.rules.specs.Settling.{State}
 use Rattle.rules.specs.Reader.{document, event_numbers}
 use Rattle.layout.specs.Sizes.{MOST_EVENTS}
 use Rattle.numbers.specs.Written.{Written}
+use Rattle.text.specs.declared.Refusal.{Refusal}
+use Rattle.text.specs.declared.Fault.{Fault}
+use Rattle.text.specs.Refusal.{number_of}
 use Rattle.document_laws.specs.Decide.{decided}
 use Rattle.record_due.specs.Due.{due}
 use Rattle.turn_laws.specs.Turns.{Reaches}
@@ -23,21 +26,19 @@ use Rattle.open_elements.specs.declared.OpenElements.{OpenElements}
 use Rattle.open_elements.specs.declared.Outcome.{Outcome}
 use Rattle.open_elements.specs.Stands.{Ranged, Stands}
 use Rattle.open_elements.specs.Becomes.{StandsWith}
-use Rattle.document_events.specs.declared.Counted.{Counted}
-use Rattle.document_events.specs.declared.Counted.TheVariants as counted
 
 -- The document d under the settings c and the elements es is refused, or gives so many events, which both buffers have got as far as they fit.
-abbrev pub EventsOf : Settings → (s : List ℕ) (es : List Element) (d numbers numbers_after bytes bytes_after : List ℕ) → Counted → Type 0
-EventsOf c s es d numbers numbers_after bytes bytes_after (counted.Events n) =
+abbrev pub EventsOf : Settings → (s : List ℕ) (es : List Element) (d numbers numbers_after bytes bytes_after : List ℕ) → Result ℕ Fault → Type 0
+EventsOf c s es d numbers numbers_after bytes bytes_after (Ok n) =
     (ev : List Event) × (document c s es (decided s es) d ≡ got ev) × (n ≡ length ev) × Written numbers numbers_after (event_numbers ev) ×
     Written bytes bytes_after (bytes_of (event_numbers ev)) × (n < 4294967296)
-EventsOf c s es d numbers numbers_after bytes bytes_after (counted.Refused f) = document c s es (decided s es) d ≡ refused f.number f.at
+EventsOf c s es d numbers numbers_after bytes bytes_after (Err f) = document c s es (decided s es) d ≡ refused f.number f.at
 
 -- What a token that stands at `at`, up to `after`, has come to: reading goes on behind it with a state for which the open elements stand, by what has begun, and
 -- which has these events, or the document is refused there. The last run of data began at `from`, and where a byte 10 or 13 was ignored before is marked.
-pub record Turned (c : Settings) (s : List ℕ) (es : List Element) (d M begun : List ℕ) (at after mark from : ℕ) (events : List Event) (r : Outcome) : Type 0 where
-  pub goes : r.number ≡ 0 → (y : State) × StandsWith es M begun r.open events y × Reaches c s es d after (line_of after mark) y × Latest c d after from y.events
-  pub refuses : 1 ≤ r.number → document c s es (decided s es) d ≡ refused r.number at
+abbrev pub Turned : (c : Settings) (s : List ℕ) (es : List Element) (d M begun : List ℕ) (at after mark from : ℕ) (events : List Event) → Result Outcome Refusal → Type 0
+Turned c s es d M begun at after mark from events (Ok r) = (y : State) × StandsWith es M begun r.open events y × Reaches c s es d after (line_of after mark) y × Latest c d after from y.events
+Turned c s es d M begun at after mark from events (Err f) = document c s es (decided s es) d ≡ refused (number_of f) at
 
 -- Reading has come to `at` with these elements open; the last tag or data ended at `since`, the last byte 10 or 13 that was ignored at `mark`, and the last run of data
 -- began at `from`. The events so far are in the buffers as far as they fit, with attribute events before each start, as they are if the current element ended here.

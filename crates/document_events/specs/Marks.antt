@@ -1,6 +1,6 @@
 -- "At every moment both must equal what 01's definition says of the places taken." (paper 02, request four): the marks that are kept with
 -- each open element, in the loop over a document's tokens.
-use Rattle.std.specs.Prelude.{ℕ, ◌≡◌, List}
+use Rattle.std.specs.Prelude.{ℕ, ◌≡◌, List, Ok}
 use Rattle.rules.specs.Settings.{Settings}
 use Rattle.rules.specs.TypeFile.{Element}
 use Rattle.rules.specs.Judge.{Accepts}
@@ -50,7 +50,5 @@ marks_going {s = s} g es i t l =
 
 -- After each token that is settled and not refused.
 pub marks_turned : {c e : Settings} {s : List ℕ} {es : List Element} → Accepts e s es → {d M begun : List ℕ} {at after mark from : ℕ} {events : List Event} {r : Outcome}
-    → Turned c s es d M begun at after mark from events r → r.number ≡ 0 → AtMoment s es c d after r.open
-marks_turned {s = s} {es} a u z =
-    let (y, came, reach, last) = u.goes z in
-    at_every_moment s es a came.0 reach
+    → Turned c s es d M begun at after mark from events (Ok r) → AtMoment s es c d after r.open
+marks_turned {s = s} {es} a (y, came, reach, last) = at_every_moment s es a came.0 reach

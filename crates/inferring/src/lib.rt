@@ -1,6 +1,6 @@
 // The ends and starts that are inferred before a start tag or a run of data, their events put behind those before.
 //
-// `rows`, `places` and `facts` are the tables of the type (crate type_tables). x is the element that starts, or 0 for data. n is how
+// `t` are the tables of the type (crate type_tables). x is the element that starts, or 0 for data. n is how
 // many events there are so far; they are put to `numbers` and `bytes` (crate event_buffer).
 // Where the tables are no type's, or the state stands in none, which ends and starts are inferred is not decided, but that the state's numbers are
 // in range and that so many events were put as are counted.
@@ -12,8 +12,10 @@ ghost use Rattle.layout.specs.Sizes.{TOKEN_EVENTS};
 ghost use Rattle.open_elements.specs.Stands.{Ranged};
 ghost use Rattle.inferring.specs.Inferring.{Stops, Chooses, InfersStart};
 
-use layout::{BEGUN, ElementNo, FACTS, PLACES, Place, ROWS};
+use event_buffer::Kind;
+use layout::{BEGUN, ElementNo, Place};
 use open_elements::OpenElements;
+use type_tables::TypeTables;
 use ways::Way;
 
 // Where no more ends are inferred: the state come to, what its current element has to say to the token, and how many events there
@@ -27,10 +29,7 @@ pub struct Stop {
 
 // Step 3, again and again: ends are inferred until x fits or starts can be inferred before it, or it is stuck.
 pub fn ends(
-    rows: &[u8; ROWS],
-    places: &[u8; PLACES],
-    facts: &[u8; FACTS],
-    members: &[u8],
+    t: TypeTables,
     begun: &[u32; BEGUN],
     state: OpenElements,
     x: ElementNo,
@@ -40,7 +39,7 @@ pub fn ends(
     bytes: &mut [u8],
 ) -> Stop
     requires { Ranged state × (x.0 ≤ element_limit) × (at < 4294967296) × (n + TOKEN_EVENTS < 4294967296) }
-    ensures { Stops rows.now places.now facts.now members.now begun.now x.0 at n state numbers.old bytes.old result numbers.new bytes.new }
+    ensures { Stops t.entry.rows.now t.entry.places.now t.entry.facts.now t.entry.members.now begun.now x.0 at n state numbers.old bytes.old result numbers.new bytes.new }
 {
     let mut o = state;
     let mut m = n;
@@ -49,15 +48,15 @@ pub fn ends(
         let e = o.element;
         let u = o.place;
         let q = o.required;
-        let w = ways::way_at(rows, places, facts, members, begun, k, e, u, q, x);
+        let w = ways::way_at(t, begun, k, e, u, q, x);
         let Way::Stuck = w else {
             break w;
         };
-        if !ways::may_end(facts, o) {
+        if !ways::may_end(t.facts, o) {
             break w;
         }
         let none = Place(0);
-        m = event_buffer::put_event(numbers, bytes, m, 4, e, at, 0, none);
+        m = event_buffer::put_event(numbers, bytes, m, Kind::InferredEnd as u32, e, at, 0, none);
         o = o.infer_end();
     };
     Stop {
@@ -68,21 +67,18 @@ pub fn ends(
 }
 
 // The element whose start is inferred next: its attribute events come before it.
-pub fn next_start(places: &[u8; PLACES], facts: &[u8; FACTS], state: OpenElements) -> ElementNo
+pub fn next_start(t: TypeTables, state: OpenElements) -> ElementNo
     requires { Ranged state }
-    ensures { Chooses places.now facts.now state result.0 × (result.0 ≤ element_limit) }
+    ensures { Chooses t.entry.places.now t.entry.facts.now state result.0 × (result.0 ≤ element_limit) }
 {
     let e = state.element;
     let q = state.required;
-    type_tables::startable(places, facts, e, q)
+    type_tables::startable(t, e, q)
 }
 
 // One start is inferred: the required place is taken, and its element opened.
 pub fn infer_start(
-    rows: &[u8; ROWS],
-    places: &[u8; PLACES],
-    facts: &[u8; FACTS],
-    members: &[u8],
+    t: TypeTables,
     begun: &mut [u32; BEGUN],
     state: OpenElements,
     at: usize,
@@ -91,12 +87,21 @@ pub fn infer_start(
     bytes: &mut [u8],
 ) -> OpenElements
     requires { Ranged state × (state.count < TAGLVL) × (at < 4294967296) × (n < 4294967296) }
-    ensures { InfersStart rows.now places.now facts.now members.now begun.old at n state numbers.old bytes.old result begun.new numbers.new bytes.new }
+    ensures { InfersStart t.entry.rows.now t.entry.places.now t.entry.facts.now t.entry.members.now begun.old at n state numbers.old bytes.old result begun.new numbers.new bytes.new }
 {
     let e = state.element;
     let q = state.required;
-    let k = type_tables::startable(places, facts, e, q);
+    let k = type_tables::startable(t, e, q);
     let shown = open_elements::place_shown(e, q);
-    event_buffer::put_event(numbers, bytes, n, 2, k, at, 0, shown);
-    state.start_required(rows, members, begun, k)
+    event_buffer::put_event(
+        numbers,
+        bytes,
+        n,
+        Kind::InferredStart as u32,
+        k,
+        at,
+        0,
+        shown,
+    );
+    state.start_required(t.rows, t.members, begun, k)
 }

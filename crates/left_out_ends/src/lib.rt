@@ -2,8 +2,8 @@
 //
 // `facts` is a table of the type (crate type_tables). Whether an open element is complete is kept with it. n events stand in the
 // buffers before.
-// Where the table is no type's, or the state stands in none, what is brought is not decided, but that the state's numbers are in range, that the
-// refusal number is below 20, and that so many events were put as are counted.
+// Where the table is no type's, or the state stands in none, what is brought is not decided, but that the state's numbers are in range, that so many
+// events were put as are counted, and that the number of a refusal is below 20.
 #![tactic(auto)]
 
 ghost use Rattle.std.specs.Prelude.{◌+◌, ◌<◌};
@@ -11,11 +11,13 @@ ghost use Rattle.layout.specs.Sizes.{TOKEN_EVENTS};
 ghost use Rattle.open_elements.specs.Stands.{Ranged};
 ghost use Rattle.left_out_ends.specs.Until.{Judges, Until};
 
+use event_buffer::Kind;
 use layout::{ElementNo, FACTS, Place};
 use open_elements::{OpenElements, Outcome};
+use text::Refusal;
 
-// Why the current element cannot have its end inferred by an end tag or the document's end: 13, 14, or 0 if it can.
-fn end_fault(facts: &[u8; FACTS], o: OpenElements) -> u32
+// Why the current element cannot have its end inferred by an end tag or the document's end.
+fn end_fault(facts: &[u8; FACTS], o: OpenElements) -> Result<(), Refusal>
     requires { Ranged o }
     ensures { Judges facts.now o result }
 {
@@ -23,16 +25,15 @@ fn end_fault(facts: &[u8; FACTS], o: OpenElements) -> u32
     let e = o.element;
     let omitted = type_tables::end_omitted(facts, e);
     if !complete {
-        return 13;
+        return Err(Refusal::Incomplete);
     }
     if !omitted {
-        return 14;
+        return Err(Refusal::EndMissing);
     }
-    0
+    Ok(())
 }
 
-// Ends are inferred until the current element is x, or there is nothing around it. Where it is refused the state is not decided, but that it
-// stands in the type, nor are the events.
+// Ends are inferred until the current element is x, or there is nothing around it.
 pub fn end_until(
     facts: &[u8; FACTS],
     state: OpenElements,
@@ -41,7 +42,7 @@ pub fn end_until(
     n: usize,
     numbers: &mut [u32],
     bytes: &mut [u8],
-) -> Outcome
+) -> Result<Outcome, Refusal>
     requires { Ranged state × (at < 4294967296) × (n + TOKEN_EVENTS < 4294967296) }
     ensures { Until facts.now x.0 at n state numbers.old bytes.old result numbers.new bytes.new }
 {
@@ -50,27 +51,12 @@ pub fn end_until(
     while 0 < o.count {
         let e = o.element;
         if e.0 == x.0 {
-            return Outcome {
-                open: o,
-                events: k,
-                number: 0,
-            };
+            return Ok(Outcome { open: o, events: k });
         }
-        let f = end_fault(facts, o);
-        if f != 0 {
-            return Outcome {
-                open: o,
-                events: k,
-                number: f,
-            };
-        }
+        end_fault(facts, o)?;
         let none = Place(0);
-        k = event_buffer::put_event(numbers, bytes, k, 4, e, at, 0, none);
+        k = event_buffer::put_event(numbers, bytes, k, Kind::InferredEnd as u32, e, at, 0, none);
         o = o.infer_end();
     }
-    Outcome {
-        open: o,
-        events: k,
-        number: 0,
-    }
+    Ok(Outcome { open: o, events: k })
 }

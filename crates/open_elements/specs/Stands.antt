@@ -67,11 +67,6 @@ around_of a (suc n) = moves.fresh (get_or a n none).element ∷ around_of a n
 abbrev pub bare : OpenElements → List rules.Open
 bare o = moves.fresh o.element.0 ∷ around_of o.around o.count
 
--- What has become of a token at `at`: it is refused by this number, or the number is 0 and P holds of what was read.
-abbrev pub Becomes : {A : Type 0} → (at number : ℕ) → (A → Type 0) → Reading A → Type 0
-Becomes at n P (refused m k) = (n ≡ m) × (1 ≤ n) × (k ≡ at)
-Becomes at n P (got x) = (n ≡ 0) × P x
-
 -- What holds of the numbers, whatever the tables hold
 
 -- The numbers of an open element are ones that the tables have room for.

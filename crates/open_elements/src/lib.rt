@@ -35,12 +35,11 @@ pub struct OpenElements {
     pub required: Place,
 }
 
-// What a token brought, beside the state: how many events there are now in all, and the refusal number or 0.
-#[derive(Drop)]
+// What a token brought that is not refused: the state, and how many events there are now in all.
+#[derive(Clone, Copy)]
 pub struct Outcome {
     pub open: OpenElements,
     pub events: usize,
-    pub number: u32,
 }
 
 // The marks of an open element: whether its content is complete, and the place that is required, or 0.

@@ -1,6 +1,6 @@
 -- What follows once a token has its place: what the contracts cite.
-use Rattle.std.specs.Prelude.{ℕ, zero, suc, ◌+◌, ◌-◌, ◌≤◌, ◌<◌, ◌≡◌, Bool, true, false, List, [], ◌∷◌, ◌++◌, length}
-use Rattle.rules.specs.Reading.{Reading, got, and_then}
+use Rattle.std.specs.Prelude.{ℕ, zero, suc, ◌+◌, ◌-◌, ◌≤◌, ◌<◌, ◌≡◌, Bool, true, false, List, [], ◌∷◌, ◌++◌, length, Result, Ok, Err}
+use Rattle.rules.specs.Reading.{Reading, refused, got, and_then}
 use Rattle.rules.specs.TypeFile.{Element}
 use Rattle.rules.specs.Elements.{content_of, has_model}
 use Rattle.rules.specs.Decisions.{start}
@@ -8,12 +8,15 @@ use Rattle.rules.specs.Events.{start_written, end_of_empty, data_run, Event}
 use Rattle.rules.specs.Settling.{State, take_place, place_taken, enter, note, limited}
 use Rattle.rules.specs.Records.{due_run}
 use Rattle.rules.specs.Bytes.{TAGLVL}
+use Rattle.text.specs.declared.Refusal.{Refusal}
+use Rattle.text.specs.Refusal.{number_of}
 use Rattle.document_laws.specs.Decide.{decided}
 use Rattle.document_laws.specs.Moves.{state}
 use Rattle.type_tables.specs.Tables.{Declares, Facts, Tables, CanTake}
 use Rattle.open_elements.specs.declared.OpenElements.{OpenElements}
 use Rattle.open_elements.specs.declared.Outcome.{Outcome}
-use Rattle.open_elements.specs.Stands.{Becomes, opening, Ranged, Stands, Taking}
+use Rattle.open_elements.specs.Stands.{opening, Ranged, Stands, Taking}
+use Rattle.open_elements.specs.Becomes.{Got}
 use Rattle.event_buffer.specs.Buffers.{Puts}
 use Rattle.ways.specs.declared.Way.{Way}
 use Rattle.ways.specs.Asks.{token_of, place_of}
@@ -63,12 +66,11 @@ entering es (suc k) y = elim (has_model (content_of es (suc k))) [ true ↦ ente
 abbrev pub Notes : (es : List Element) (x : ℕ) (y : State) (events : List Event) → State → Type 0
 Notes es x y events w = w ≡ state (entering es x y).current (entering es x y).around (y.events ++ events)
 
--- The token takes its place by what was found, and its events are put, or it is refused; where it fits at none it is refused. An element with a model is not
--- opened yet: where it is not refused there is room for it, and the open elements are those before but for the place that was taken. What is put is what is shown of
--- the events that the rules note: a run of data may reach further than it is shown, a tag ends at `shown`.
-pub record Placed (rows places facts M begun : List ℕ) (found : Way) (x at shown n : ℕ) (o : OpenElements) (numbers bytes : List ℕ) (r : Outcome) (begun' numbers' bytes' : List ℕ) : Type 0 where
+-- The token takes its place by what was found, and its events are put. An element with a model is not opened yet: there is room for it, and the open elements are those
+-- before but for the place that was taken. What is put is what is shown of the events that the rules note: a run of data may reach further than it is shown, a tag ends
+-- at `shown`.
+pub record PlacedGot (rows places facts M begun : List ℕ) (found : Way) (x at shown n : ℕ) (o : OpenElements) (numbers bytes : List ℕ) (r : Outcome) (begun' numbers' bytes' : List ℕ) : Type 0 where
   pub ranged : Ranged r.open
-  pub small : r.number < 20
   pub whole : length begun' ≡ length begun
   pub events : List Event
   pub puts : Puts numbers bytes n events numbers' bytes'
@@ -77,14 +79,31 @@ pub record Placed (rows places facts M begun : List ℕ) (found : Way) (x at sho
   -- Whether its element opens, and the place that it shows.
   pub opens : Bool
   pub taken : ℕ
-  pub written : r.number ≡ 0 → events ≡ shown_of x opens taken at shown
+  pub written : events ≡ shown_of x opens taken at shown
   pub p : ℕ
   pub place : (s : List ℕ) (es : List Element) → Tables s es rows places facts M → o.element.0 ≤ length es → x ≤ length es → p ≡ place_of ((decided s es).fits o.element.0 [] (token_of x)) found
-  pub stuck : p ≡ 0 → r.number ≡ 12
-  pub taking : r.number ≡ 0 → Taking rows M begun p o r.open begun'
-  pub room : r.number ≡ 0 → (x ≡ 0 → ⊥) → r.open.count < TAGLVL
+  pub some : p ≡ 0 → ⊥
+  pub taking : Taking rows M begun p o r.open begun'
+  pub room : (x ≡ 0 → ⊥) → r.open.count < TAGLVL
+  pub notes : (s : List ℕ) (es : List Element) → Tables s es rows places facts M → (z : State) → Stands es M begun o z → CanTake es z.current p → x ≤ length es
+      → (after : ℕ) → (1 ≤ x → after ≡ shown) → Got (Notes es x (take_place p z) (written_of x opens taken at after)) (noting es x at after (take_place p z))
+
+-- It is refused: as the rules refuse it where it has its place, or where it fits at none. Nothing was put, and no member has begun.
+pub record PlacedRefused (rows places facts M begun : List ℕ) (found : Way) (x at shown : ℕ) (o : OpenElements) (numbers bytes : List ℕ) (f : Refusal) (begun' numbers' bytes' : List ℕ) : Type 0 where
+  pub small : number_of f < 20
+  pub begun_same : begun' ≡ begun
+  pub numbers_same : numbers' ≡ numbers
+  pub bytes_same : bytes' ≡ bytes
+  pub p : ℕ
+  pub place : (s : List ℕ) (es : List Element) → Tables s es rows places facts M → o.element.0 ≤ length es → x ≤ length es → p ≡ place_of ((decided s es).fits o.element.0 [] (token_of x)) found
+  pub stuck : p ≡ 0 → number_of f ≡ 12
   pub notes : (p ≡ 0 → ⊥) → (s : List ℕ) (es : List Element) → Tables s es rows places facts M → (z : State) → Stands es M begun o z → CanTake es z.current p → x ≤ length es
-      → (after : ℕ) → (1 ≤ x → after ≡ shown) → Becomes at r.number (Notes es x (take_place p z) (written_of x opens taken at after)) (noting es x at after (take_place p z))
+      → (after : ℕ) → (1 ≤ x → after ≡ shown) → noting es x at after (take_place p z) ≡ refused (number_of f) at
+
+-- The token takes its place by what was found, and its events are put, or it is refused; where it fits at none it is refused.
+abbrev pub Placed : (rows places facts M begun : List ℕ) (found : Way) (x at shown n : ℕ) (o : OpenElements) (numbers bytes : List ℕ) → Result Outcome Refusal → (begun' numbers' bytes' : List ℕ) → Type 0
+Placed rows places facts M begun found x at shown n o numbers bytes (Ok r) begun' numbers' bytes' = PlacedGot rows places facts M begun found x at shown n o numbers bytes r begun' numbers' bytes'
+Placed rows places facts M begun found x at shown n o numbers bytes (Err f) begun' numbers' bytes' = PlacedRefused rows places facts M begun found x at shown o numbers bytes f begun' numbers' bytes'
 
 -- Where it opens, the element x is the current one.
 abbrev pub opened_by : (rows : List ℕ) (x : ℕ) (opens : Bool) → OpenElements → OpenElements
@@ -97,7 +116,7 @@ Follows es M begun o z events y = Stands es M begun o y × (y.events ≡ z.event
 
 -- After that an element with a model is opened, and the open elements are q: by the tables of a type they stand for what the rules make of the token.
 pub record Places (rows places facts M begun : List ℕ) (found : Way) (x at shown n : ℕ) (o : OpenElements) (numbers bytes : List ℕ) (r : Outcome) (q : OpenElements) (begun' numbers' bytes' : List ℕ) : Type 0 where
-  pub placed : Placed rows places facts M begun found x at shown n o numbers bytes r begun' numbers' bytes'
+  pub placed : PlacedGot rows places facts M begun found x at shown n o numbers bytes r begun' numbers' bytes'
   pub ranged : Ranged q
-  pub notes : (placed.p ≡ 0 → ⊥) → (s : List ℕ) (es : List Element) → Tables s es rows places facts M → (z : State) → Stands es M begun o z → CanTake es z.current placed.p → x ≤ length es
-      → (after : ℕ) → (1 ≤ x → after ≡ shown) → Becomes at r.number (Follows es M begun' q z (written_of x placed.opens placed.taken at after)) (noting es x at after (take_place placed.p z))
+  pub notes : (s : List ℕ) (es : List Element) → Tables s es rows places facts M → (z : State) → Stands es M begun o z → CanTake es z.current placed.p → x ≤ length es
+      → (after : ℕ) → (1 ≤ x → after ≡ shown) → Got (Follows es M begun' q z (written_of x placed.opens placed.taken at after)) (noting es x at after (take_place placed.p z))

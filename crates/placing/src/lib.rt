@@ -1,10 +1,10 @@
 // How a start tag or a run of data takes its place in the current element, its events put behind those before.
 //
-// `rows`, `places` and `facts` are the tables of the type (crate type_tables). x is the element that starts, or 0 for data. n is how
+// `t` are the tables of the type (crate type_tables). x is the element that starts, or 0 for data. n is how
 // many events there are so far; they are put to `numbers` and `bytes` (crate event_buffer). A start tag ends at `shown`, and data is shown up to there: a byte 13 that
 // ends a run may turn out to be ignored, and is then no part of its event.
 // Where the tables are no type's, or the state stands in none, what a token brings is not decided, but that the state's numbers are in range,
-// that the refusal number is below 20, and that so many events were put as are counted.
+// that so many events were put as are counted, and that the number of a refusal is below 20.
 #![tactic(auto)]
 
 ghost use Rattle.std.specs.Prelude.{◌+◌, ◌≤◌, ◌<◌};
@@ -13,8 +13,11 @@ ghost use Rattle.open_elements.specs.Stands.{Ranged};
 ghost use Rattle.ways.specs.Asks.{fit_of};
 ghost use Rattle.placing.specs.Noting.{Writes, Placed};
 
-use layout::{BEGUN, ElementNo, FACTS, PLACES, Place, ROWS};
+use event_buffer::Kind;
+use layout::{BEGUN, ElementNo, FACTS, Place};
 use open_elements::{OpenElements, Outcome};
+use text::Refusal;
+use type_tables::TypeTables;
 use ways::Way;
 
 // The events of a run of data, none where no byte of it is shown, or of an element x, which took this place: the end of an EMPTY element stands behind its tag.
@@ -36,22 +39,36 @@ fn put_written(
         if at == shown {
             return n;
         }
-        return event_buffer::put_event(numbers, bytes, n, 5, x, at, shown - at, none);
+        return event_buffer::put_event(
+            numbers,
+            bytes,
+            n,
+            Kind::Data as u32,
+            x,
+            at,
+            shown - at,
+            none,
+        );
     }
-    let m = event_buffer::put_event(numbers, bytes, n, 1, x, at, shown - at, taken);
+    let m = event_buffer::put_event(
+        numbers,
+        bytes,
+        n,
+        Kind::Start as u32,
+        x,
+        at,
+        shown - at,
+        taken,
+    );
     if ways::opens(facts, x) {
         return m;
     }
-    event_buffer::put_event(numbers, bytes, m, 6, x, shown, 0, none)
+    event_buffer::put_event(numbers, bytes, m, Kind::EmptyEnd as u32, x, shown, 0, none)
 }
 
-// The token takes its place by what was found, and its events are put; an element with a model is left for the caller to open. Where it is refused neither the
-// state, but for its range, nor the events are decided.
+// The token takes its place by what was found, and its events are put; an element with a model is left for the caller to open.
 pub fn placed(
-    rows: &[u8; ROWS],
-    places: &[u8; PLACES],
-    facts: &[u8; FACTS],
-    members: &[u8],
+    t: TypeTables,
     begun: &mut [u32; BEGUN],
     state: OpenElements,
     found: Way,
@@ -61,32 +78,23 @@ pub fn placed(
     n: usize,
     numbers: &mut [u32],
     bytes: &mut [u8],
-) -> Outcome
+) -> Result<Outcome, Refusal>
     requires { Ranged state × (fit_of found ≤ GRPGTCNT) × (x.0 ≤ element_limit) × (at ≤ shown) × (shown < 4294967296) × (n + 2 < 4294967296) }
-    ensures { Placed rows.now places.now facts.now members.now begun.old found x.0 at shown n state numbers.old bytes.old result begun.new numbers.new bytes.new }
+    ensures { Placed t.entry.rows.now t.entry.places.now t.entry.facts.now t.entry.members.now begun.old found x.0 at shown n state numbers.old bytes.old result begun.new numbers.new bytes.new }
 {
     let e = state.element;
-    let p = ways::place_of(rows, places, facts, e, found, x);
+    let p = ways::place_of(t, e, found, x);
     if p.0 == 0 {
-        return Outcome {
-            open: state,
-            events: n,
-            number: 12,
-        };
+        return Err(Refusal::NotAllowedHere);
     }
     if ways::is_full(state.count, x) {
-        return Outcome {
-            open: state,
-            events: n,
-            number: 15,
-        };
+        return Err(Refusal::TooDeep);
     }
     let taken = open_elements::place_shown(e, p);
-    let last = state.take(rows, members, begun, p);
-    let m = put_written(facts, x, taken, at, shown, n, numbers, bytes);
-    Outcome {
+    let last = state.take(t.rows, t.members, begun, p);
+    let m = put_written(t.facts, x, taken, at, shown, n, numbers, bytes);
+    Ok(Outcome {
         open: last,
         events: m,
-        number: 0,
-    }
+    })
 }

@@ -11,7 +11,7 @@ use Rattle.ways.specs.Ends.{over_says}
 use Rattle.inferring.specs.declared.Stop.{Stop}
 use Rattle.inferring.specs.Inferring.{Stops, Chooses, InfersStart}
 use Rattle.inferring.specs.Starts.{Along, along_start, along_next}
-use Rattle.placing.specs.Noting.{Opens, Placed, opened_by}
+use Rattle.placing.specs.Noting.{Opens, PlacedGot, opened_by}
 use Rattle.placing.specs.Places.{places_opened}
 use Rattle.settling.specs.Settled.{Settles}
 use Rattle.settling.specs.Tokens.{settles_placed}
@@ -50,8 +50,7 @@ pub record Steps (rows places facts M lists marks : List ℕ) (x at shown n : �
   pub bytes_given : List ℕ
   pub given : PutsWritten lists marks x many numbers_last bytes_last with numbers_given bytes_given
   pub put : Outcome
-  pub placed : Placed rows places facts M begun_last stop.found x at shown with last numbers_given bytes_given put begun' numbers' bytes'
-  pub fine : put.number ≡ 0
+  pub placed : PlacedGot rows places facts M begun_last stop.found x at shown with last numbers_given bytes_given put begun' numbers' bytes'
   pub opens : Bool
   pub told : Opens facts x opens
   pub opened : q ≡ opened_by rows x opens put.open
@@ -66,7 +65,7 @@ starts_along h starts room l (more before chooses defaults i) =
 -- What the steps make of the token is what the rules make of it.
 pub steps_settle : {rows places facts M lists marks : List ℕ} {x at shown n : ℕ} {o : OpenElements} {begun numbers bytes : List ℕ} {q : OpenElements} {begun' numbers' bytes' : List ℕ} → Ranged o → x ≤ element_limit
     → (h : Steps rows places facts M lists marks x at shown n o begun numbers bytes q begun' numbers' bytes')
-    → Settles rows places facts M lists marks x at shown o begun h.ends.turns.events h.before h.numbers_before h.bytes_before (record { «open» = q; events = h.put.events; number = h.put.number }) begun' numbers' bytes'
+    → Settles rows places facts M lists marks x at shown o begun h.ends.turns.events h.before h.numbers_before h.bytes_before (record { «open» = q; events = h.put.events }) begun' numbers' bytes'
 steps_settle {shown = shown} g small h =
     settles_placed shown g.few (λ s es z stands. sym (over_says s stands) ∙ h.on) h.ends refl h.room (starts_along h.ends.turns.ranged (starts_of h.stop.found) h.room (omega arith) h.starts) (omega arith) h.given
-    (places_opened h.placed h.fine small h.opens h.told h.opened)
+    (places_opened h.placed small h.opens h.told h.opened)

@@ -121,13 +121,7 @@ pub fn fitting(
 }
 
 // Whether data may come next in the element e after the place u at the level.
-pub fn takes_data(
-    t: TypeTables,
-    begun: &[u32; BEGUN],
-    level: usize,
-    e: ElementNo,
-    u: Place,
-) -> bool
+pub fn takes_data(t: TypeTables, begun: &[u32; BEGUN], level: usize, e: ElementNo, u: Place) -> bool
     requires { (level ≤ TAGLVL) × (e.0 ≤ element_limit) × (u.0 ≤ GRPGTCNT) }
     ensures { (s : List ℕ) (es : List Element) → Tables s es t.entry.rows.now t.entry.places.now t.entry.facts.now t.entry.members.now →
         (o : rules.Open) → Entered es t.entry.members.now begun.now level e.0 u.0 o →
@@ -159,11 +153,7 @@ fn lowered(p: usize) -> Place
 }
 
 // The place of the name x that may come next at the start of the element e, or 0. Nothing has begun there, so the row decides.
-pub fn fitting_first(
-    t: TypeTables,
-    e: ElementNo,
-    x: ElementNo,
-) -> Place
+pub fn fitting_first(t: TypeTables, e: ElementNo, x: ElementNo) -> Place
     requires { (e.0 ≤ element_limit) × (x.0 ≤ element_limit) }
     ensures by_index { (s : List ℕ) (es : List Element) (M : List ℕ) → Tables s es t.entry.rows.now t.entry.places.now t.entry.facts.now M → e.0 ≤ length es →
         (k : Token) → name_number k ≡ x.0 → Declares es k → result.0 ≡ (decided s es).fits e.0 [] k }
@@ -208,10 +198,7 @@ pub fn startable(t: TypeTables, e: ElementNo, p: Place) -> ElementNo
 }
 
 // The element whose start is to be inferred at the start of the element e, or 0.
-pub fn inferable(
-    t: TypeTables,
-    e: ElementNo,
-) -> ElementNo
+pub fn inferable(t: TypeTables, e: ElementNo) -> ElementNo
     requires { e.0 ≤ element_limit }
     ensures by_index { (s : List ℕ) (es : List Element) (M : List ℕ) → Tables s es t.entry.rows.now t.entry.places.now t.entry.facts.now M → e.0 ≤ length es →
         result.0 ≡ rules.inferable s es (decided s es) (fresh e.0) }

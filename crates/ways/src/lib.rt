@@ -1,7 +1,7 @@
 // What the current element has to say to a start tag or to data: whether it fits, how many starts are inferred before it, and
 // whether the element's end is inferred. Nothing is changed here.
 //
-// `rows`, `places` and `facts` are the tables of the type (crate type_tables). x is the element that starts, or 0 for data.
+// `t` are the tables of the type, or `facts` the one of them that is asked (crate type_tables). x is the element that starts, or 0 for data.
 // Where the tables are no type's, an answer is not decided, but for the range that its contract has.
 #![tactic(auto)]
 
@@ -16,8 +16,9 @@ ghost use Rattle.document_laws.specs.Decide.{decided};
 ghost use Rattle.type_tables.specs.Tables.{name_number, Declares, Facts, Tables, Entered};
 ghost use Rattle.ways.specs.Asks.{way_of, chained, starts_of, fit_of, place_of, Requires, MayEnd};
 
-use layout::{BEGUN, ELEMENTS, ElementNo, FACTS, PLACES, Place, ROWS, TAGLVL};
+use layout::{BEGUN, ELEMENTS, ElementNo, FACTS, Place, TAGLVL};
 use open_elements::OpenElements;
+use type_tables::TypeTables;
 
 // What the current element has to say to a start tag or a data byte.
 #[derive(Clone, Copy)]
@@ -31,27 +32,20 @@ pub enum Way {
 
 // How many starts must be inferred in the element e where the place q is required before x fits, or 0 if there is no such
 // chain.
-fn chain(
-    rows: &[u8; ROWS],
-    places: &[u8; PLACES],
-    facts: &[u8; FACTS],
-    e: ElementNo,
-    q: Place,
-    x: ElementNo,
-) -> usize
+fn chain(t: TypeTables, e: ElementNo, q: Place, x: ElementNo) -> usize
     requires { (e.0 ≤ element_limit) × (x.0 ≤ element_limit) }
-    ensures by_index { (s : List ℕ) (es : List Element) (M : List ℕ) → Tables s es rows.now places.now facts.now M →
-        (o : rules.Open) → Requires s es M e.0 q.0 o → (t : Token) → name_number t ≡ x.0 → Declares es t → result ≡ chained s es (decided s es) t o }
+    ensures by_index { (s : List ℕ) (es : List Element) (M : List ℕ) → Tables s es t.entry.rows.now t.entry.places.now t.entry.facts.now M →
+        (o : rules.Open) → Requires s es M e.0 q.0 o → (k : Token) → name_number k ≡ x.0 → Declares es k → result ≡ chained s es (decided s es) k o }
     ensures upper_bound { result ≤ element_limit }
 {
-    let mut c = type_tables::startable(places, facts, e, q);
+    let mut c = type_tables::startable(t, e, q);
     let mut n = 1;
     while n <= ELEMENTS && c.0 != 0 {
-        let p = type_tables::fitting_first(rows, places, facts, c, x);
+        let p = type_tables::fitting_first(t, c, x);
         if p.0 != 0 {
             return n;
         }
-        c = type_tables::inferable(rows, places, facts, c);
+        c = type_tables::inferable(t, c);
         n += 1;
     }
     0
@@ -59,10 +53,7 @@ fn chain(
 
 // Steps 1 and 2 at the element e after the place u at the level, where the place q is required.
 pub fn way_at(
-    rows: &[u8; ROWS],
-    places: &[u8; PLACES],
-    facts: &[u8; FACTS],
-    members: &[u8],
+    t: TypeTables,
     begun: &[u32; BEGUN],
     level: usize,
     e: ElementNo,
@@ -71,16 +62,16 @@ pub fn way_at(
     x: ElementNo,
 ) -> Way
     requires { (level ≤ TAGLVL) × (e.0 ≤ element_limit) × (u.0 ≤ GRPGTCNT) × (x.0 ≤ element_limit) }
-    ensures by_index { (s : List ℕ) (es : List Element) → Tables s es rows.now places.now facts.now members.now →
-        (o : rules.Open) → Entered es members.now begun.now level e.0 u.0 o → q.0 ≡ rules.required_place s es (decided s es) o →
-        (t : Token) → name_number t ≡ x.0 → Declares es t → result ≡ way_of (rules.fitting s es (decided s es) o t) (chained s es (decided s es) t o) }
+    ensures by_index { (s : List ℕ) (es : List Element) → Tables s es t.entry.rows.now t.entry.places.now t.entry.facts.now t.entry.members.now →
+        (o : rules.Open) → Entered es t.entry.members.now begun.now level e.0 u.0 o → q.0 ≡ rules.required_place s es (decided s es) o →
+        (k : Token) → name_number k ≡ x.0 → Declares es k → result ≡ way_of (rules.fitting s es (decided s es) o k) (chained s es (decided s es) k o) }
     ensures result_bound { (fit_of result ≤ GRPGTCNT) × (starts_of result ≤ element_limit) }
 {
-    let p = type_tables::fitting(rows, places, facts, members, begun, level, e, u, x);
+    let p = type_tables::fitting(t, begun, level, e, u, x);
     if p.0 != 0 {
         return Way::Taken(p);
     }
-    let n = chain(rows, places, facts, e, q, x);
+    let n = chain(t, e, q, x);
     if n != 0 {
         return Way::Inferred(n);
     }
@@ -117,22 +108,15 @@ pub fn starts_of(w: Way) -> usize
 
 // The place of x by what was found, in the element e, or 0 where nothing fits. Where starts were inferred, e is the last that was started, in
 // which nothing was taken.
-pub fn place_of(
-    rows: &[u8; ROWS],
-    places: &[u8; PLACES],
-    facts: &[u8; FACTS],
-    e: ElementNo,
-    found: Way,
-    x: ElementNo,
-) -> Place
+pub fn place_of(t: TypeTables, e: ElementNo, found: Way, x: ElementNo) -> Place
     requires { (e.0 ≤ element_limit) × (x.0 ≤ element_limit) × (fit_of found ≤ GRPGTCNT) }
-    ensures by_index { (s : List ℕ) (es : List Element) (M : List ℕ) → Tables s es rows.now places.now facts.now M → e.0 ≤ length es →
-        (t : Token) → name_number t ≡ x.0 → Declares es t → result.0 ≡ place_of ((decided s es).fits e.0 [] t) found }
+    ensures by_index { (s : List ℕ) (es : List Element) (M : List ℕ) → Tables s es t.entry.rows.now t.entry.places.now t.entry.facts.now M → e.0 ≤ length es →
+        (k : Token) → name_number k ≡ x.0 → Declares es k → result.0 ≡ place_of ((decided s es).fits e.0 [] k) found }
     ensures result_bound { result.0 ≤ GRPGTCNT }
 {
     match found {
         Way::Taken(p) => p,
-        Way::Inferred(_) => type_tables::fitting_first(rows, places, facts, e, x),
+        Way::Inferred(_) => type_tables::fitting_first(t, e, x),
         Way::Stuck => Place(0),
     }
 }
