@@ -1,10 +1,12 @@
 -- Numbers bit by bit: bits set, those of two numbers taken together, a part, two numbers side by side, how many bits are set, and the lowest of them.
 use Rattle.std.specs.Prelude.{ℕ, zero, suc, ◌+◌, ◌-◌, ◌*◌, ◌/◌, ◌%◌, ◌^◌, ◌≤◌, ◌<◌, min, ◌≡◌, refl, Bool, true, false, ◌&&◌, ◌||◌, not, cond, eqb}
-use Rattle.std.proofs.Common.{sym, ◌∙◌, ap, pow-suc, mod-lt, arith, eqb-true, shr-shr, pow_mono, shl_exact}
+use Rattle.std.proofs.Common.{sym, ◌∙◌, ap, pow-suc, mod-lt, arith, eqb-true, shr-shr, pow_mono, shl_exact, w64}
 use Rattle.std.proofs.Math.Nat.{div-eq_of_lt}
 use Rattle.std.proofs.Math.Decide.{dec_lt}
 use Rattle.std.proofs.lemmas.Bool.{eqb-false}
 use Rattle.basic_laws.specs.Truth.{bool_cases, eqb_bit}
+use Rattle.std.specs.Int.{trailing_zeros}
+use Rattle.std.proofs.lemmas.Nat.Bits.{bit_at-trailing_zeros}
 use Rattle.std.proofs.lemmas.Nat.{shr_le, and_shr, and_mod, or_shr, or_mod, xor_shr, xor_mod}
 use Rattle.std.proofs.Math.Pow.{high, low, field, mod-mod-pow}
 use Rattle.std.specs.Int.Bits.{bit_and, bit_or, bit_xor, and_step, and_self}
@@ -104,53 +106,9 @@ module _ (w lo hi : ℕ) (small : lo < 2 ^ w) where
   pub high_bit : (t : ℕ) → (hi * 2 ^ w + lo) / 2 ^ (w + t) % 2 ≡ hi / 2 ^ t % 2
   high_bit t = ap (λ (n : ℕ). n % 2) (sym (shr-shr (hi * 2 ^ w + lo) w t) ∙ ap (λ (n : ℕ). n / 2 ^ t) (high hi w small))
 
--- Of a power of two one bit is set only.
-pub pow_only : (i j : ℕ) → 2 ^ i / 2 ^ j % 2 ≡ 1 → j ≡ i
-pow_only i j e = bool_cases (eqb j i) (λ x. eqb-true j i x) (λ x. absurd (omega (arith, pow_unset i j (eqb-false j i x))))
-
--- The lowest bit is found.
-
--- Every number but 0 has a lowest bit, which is all that the number before does not share with it.
-pub record Ends (y : ℕ) : Type 0 where
-  pub bit : ℕ
-  pub lowest : Lowest y bit
-  pub alone : 2 ^ bit + bit_and y (y - 1) ≡ y
-
-pub ends : (k y : ℕ) → y ≤ k → 1 ≤ y → Ends y
-ends zero y l m = absurd (omega arith)
-ends (suc k) y l m = go (y % 2) refl (λ i j. ends k (y / 2) i j)
-  where
-    odd : y % 2 ≡ 1 → 1 + bit_and y (y - 1) ≡ y
-    odd e =
-        let a : (y - 1) / 2 ≡ y / 2 = omega arith in
-        let b : (y - 1) % 2 ≡ 0 = omega arith in
-        let z : bit_and y (y - 1) ≡ y / 2 * 2 + min 1 0 = and_step y (y - 1) ∙ ap (λ (n : ℕ). bit_and (y / 2) n * 2 + min (y % 2) ((y - 1) % 2)) a ∙ ap (λ (n : ℕ). n * 2 + min (y % 2) ((y - 1) % 2)) (and_self (y / 2)) ∙ ap (λ (n : ℕ). y / 2 * 2 + min n ((y - 1) % 2)) e ∙ ap (λ (n : ℕ). y / 2 * 2 + min 1 n) b in
-        omega arith
-
-    even : y % 2 ≡ 0 → (j p q : ℕ) → q ≡ p * 2 → p + bit_and (y / 2) (y / 2 - 1) ≡ y / 2 → q + bit_and y (y - 1) ≡ y
-    even e j p q d h =
-        let a : (y - 1) / 2 ≡ y / 2 - 1 = omega arith in
-        let b : (y - 1) % 2 ≡ 1 = omega arith in
-        let z : bit_and y (y - 1) ≡ bit_and (y / 2) (y / 2 - 1) * 2 + min 0 1 = and_step y (y - 1) ∙ ap (λ (n : ℕ). bit_and (y / 2) n * 2 + min (y % 2) ((y - 1) % 2)) a ∙ ap (λ (n : ℕ). bit_and (y / 2) (y / 2 - 1) * 2 + min n ((y - 1) % 2)) e ∙ ap (λ (n : ℕ). bit_and (y / 2) (y / 2 - 1) * 2 + min 0 n) b in
-        omega arith
-
-    up : (j : ℕ) → y / 2 ^ suc j % 2 ≡ y / 2 / 2 ^ j % 2
-    up j = ap (λ (n : ℕ). n % 2) (half_shift y j)
-
-    lower : (j : ℕ) → y % 2 ≡ 0 → Lowest (y / 2) j → (i : ℕ) → i < suc j → y / 2 ^ i % 2 ≡ 0
-    lower j e w zero h = let d : y / 1 % 2 ≡ 0 = omega arith in d
-    lower j e w (suc i) h = up i ∙ w.lower i (omega arith)
-
-    go : (b : ℕ) → y % 2 ≡ b → (y / 2 ≤ k → 1 ≤ y / 2 → Ends (y / 2)) → Ends y
-    go zero e half =
-        let w = half (omega arith) (omega arith) in
-        record {
-          bit = suc w.bit;
-          lowest = record { here = up w.bit ∙ w.lowest.here; lower = lower w.bit e w.lowest };
-          alone = even e w.bit (2 ^ w.bit) (2 ^ suc w.bit) (pow-suc 2 w.bit) w.alone;
-        }
-    go (suc zero) e half = record { bit = 0; lowest = record { here = let d : y / 1 % 2 ≡ 1 = omega arith in d; lower = λ j h. absurd (omega arith) }; alone = odd e }
-    go (suc (suc b)) e half = absurd (omega arith)
+-- Every number but 0 has a lowest bit.
+pub lowest_of : (y : ℕ) → 1 ≤ y → y < 2 ^ 64 → (trailing_zeros w64 y < 64) × Lowest y (trailing_zeros w64 y)
+lowest_of y l m = let (few, here, lower) = bit_at-trailing_zeros w64 y (omega arith) m in (few, record { here = here; lower = lower })
 
 -- The bit of a number below 2 ^ w is below w.
 pub bit_below : (w y j : ℕ) → y < 2 ^ w → y / 2 ^ j % 2 ≡ 1 → j < w

@@ -1,5 +1,5 @@
 -- Which members the two numbers have.
-use Rattle.std.specs.Prelude.{ℕ, ◌-◌, ◌/◌, ◌%◌, ◌^◌, ◌≤◌, ◌<◌, ◌≡◌, Bool, true, false, cond, eqb, ltb}
+use Rattle.std.specs.Prelude.{ℕ, ◌-◌, ◌/◌, ◌%◌, ◌^◌, ◌≤◌, ◌<◌, ◌≡◌, Bool, true, false, Option, Some, None, cond, eqb, ltb}
 use Rattle.layout.specs.Sizes.{POSITIONS}
 use Rattle.member_bits.specs.declared.Bits.{Bits}
 
@@ -22,6 +22,11 @@ pub record IsNone (b : Bits) (r : Bool) : Type 0 where
 pub data First (f : ℕ → Bool) (r : ℕ) : Type 0 where
   none : r ≡ 0 → ((n : ℕ) → 1 ≤ n → n < POSITIONS → f n ≡ false) → First f r
   some : 1 ≤ r → r < POSITIONS → f r ≡ true → ((n : ℕ) → 1 ≤ n → n < r → f n ≡ false) → First f r
+
+-- A member's number, or 0 for none.
+abbrev pub number_of : Option ℕ → ℕ
+number_of (Some x) = x
+number_of None = 0
 
 -- The lowest bit of y that is set is r.
 pub record Lowest (y r : ℕ) : Type 0 where

@@ -11,7 +11,7 @@ use Rattle.rules.specs.Bytes.{GRPGTCNT}
 use Rattle.layout.specs.Sizes.{POSITIONS}
 use Rattle.member_bits.specs.declared.Bits.{Bits}
 use Rattle.member_bits.specs.Having.{bit_in, Has, IsNone, First, none, some, Lowest}
-use Rattle.member_bits.specs.Bits.{zero_bit, or_either, and_both, differs, xor_one, or_bit, shifted_wide, low_bit, high_bit, pow_only, pow_set, ends, bit_below}
+use Rattle.member_bits.specs.Bits.{zero_bit, or_either, and_both, differs, xor_one, or_bit, shifted_wide, low_bit, high_bit, lowest_of, bit_below}
 
 abbrev bits : (low high : ℕ) → Bits
 bits l h = record { low = l; high = h }
@@ -134,31 +134,6 @@ module _ (b : Bits) (h : ℕ) (f : ℕ → Bool) (w : Has b f) (l : 1 ≤ h) whe
       rw (shifted_wide k (omega arith), i)
       (with_bit b.low (bit_or b.high (2 ^ (h - 1 - 64))) w.low (or_lt 32 b.high (2 ^ (h - 1 - 64)) w.high (pow-lt {j = 32} (omega arith))) (λ j. more_high b.low b.high (h - 1) j (omega arith)))
 
--- The lowest bit is searched for.
-
--- The lowest bit of y is not below j, and b has it alone.
-pub record Seeks (y b j : ℕ) : Type 0 where
-  pub bit : ℕ
-  pub lowest : Lowest y bit
-  pub alone : b ≡ 2 ^ bit
-  pub ahead : j ≤ bit
-  pub few : bit < 64
-
-pub seeks_start : (y : ℕ) → 1 ≤ y → y < 2 ^ 64 → Seeks y (y - bit_and y (y - 1)) 0
-seeks_start y l m = let w = ends y y (omega arith) l in record { bit = w.bit; lowest = w.lowest; alone = omega (arith, w.alone); ahead = omega arith; few = bit_below 64 y w.bit m w.lowest.here }
-
-pub seeks_found : {y b j : ℕ} → Seeks y b j → b ≡ 1 * 2 ^ j % 2 ^ 64 → j < 64 → Lowest y j
-seeks_found {y} {b} {j} w e l =
-    let same : 2 ^ w.bit ≡ 2 ^ j = sym w.alone ∙ e ∙ shifted_wide j (omega arith) in
-    subst (Lowest y) (sym (pow_only w.bit j (ap (λ (n : ℕ). n / 2 ^ j % 2) same ∙ pow_set j))) w.lowest
-
-pub seeks_next : {y b j : ℕ} → Seeks y b j → (b ≡ 1 * 2 ^ j % 2 ^ 64 → ⊥) → j < 64 → Seeks y b (j + 1)
-seeks_next {y} {b} {j} w n l = record { bit = w.bit; lowest = w.lowest; alone = w.alone; ahead = go (ℕ_discrete j w.bit); few = w.few }
-  where
-    go : Dec (j ≡ w.bit) → j + 1 ≤ w.bit
-    go (yes e) = absurd (n (w.alone ∙ ap (λ (k : ℕ). 2 ^ k) (sym e) ∙ sym (shifted_wide j (omega arith))))
-    go (no d) = omega (arith, w.ahead)
-
 -- The first member is that of the lowest bit.
 
 module _ (b : Bits) (f : ℕ → Bool) (w : Has b f) (r : ℕ) where
@@ -207,8 +182,8 @@ is_none b =
     found f r l (some a c e d) = (r, a, c, e)
 
     go : (f : ℕ → Bool) → Has b f → (bit_or b.low b.high ≡ 0 → ⊥) → Dec (b.low ≡ 0) → Dec (b.high ≡ 0) → (n : ℕ) × (1 ≤ n) × (n < POSITIONS) × (f n ≡ true)
-    go f w n (no d) y = let v = ends b.low b.low (omega arith) (omega arith) in found f (v.bit + 1) (omega arith) (first_low b f w v.bit _ refl v.lowest (bit_below 64 b.low v.bit w.low v.lowest.here))
-    go f w n (yes d) (no y) = let v = ends b.high b.high (omega arith) (omega arith) in found f (v.bit + 65) (omega arith) (first_high b f w v.bit d _ refl v.lowest)
+    go f w n (no d) y = let (few, v) = lowest_of b.low (omega arith) w.low in found f _ (omega arith) (first_low b f w _ _ refl v few)
+    go f w n (yes d) (no y) = let (few, v) = lowest_of b.high (omega arith) (omega (arith, w.high)) in found f _ (omega arith) (first_high b f w _ d _ refl v)
     go f w n (yes d) (yes y) = absurd (n (ap₂ bit_or d y))
 
 -- Those above a member stay where the bits up to it are cut off.

@@ -1,6 +1,6 @@
--- `joined` meets its contract.
+-- `bitor` meets its contract.
 use Rattle.member_bits.specs.Operations.{has_joined}
-use Rattle.member_bits.proofs.joined.Goals as goal
+use Rattle.member_bits.proofs.BitsBitOr.bitor.Goals as goal
 
 pub returns : goal.returns
 returns c = λ f k. has_joined _ _ f k

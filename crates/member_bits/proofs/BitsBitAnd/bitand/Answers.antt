@@ -1,6 +1,6 @@
--- `common` meets its contract.
+-- `bitand` meets its contract.
 use Rattle.member_bits.specs.Operations.{has_common}
-use Rattle.member_bits.proofs.common.Goals as goal
+use Rattle.member_bits.proofs.BitsBitAnd.bitand.Goals as goal
 
 pub returns : goal.returns
 returns c = λ f k. has_common _ _ f k
