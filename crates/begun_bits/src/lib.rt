@@ -3,20 +3,14 @@
 // `begun` has three numbers for each level, the document's first, then those of the open elements: a bit for each member, from the first.
 #![tactic(auto)]
 
-ghost use Rattle.std.specs.Prelude.{◌≡◌, ◌≤◌, length};
+ghost use Rattle.std.specs.Prelude.{◌≤◌};
 ghost use Rattle.rules.specs.Bytes.{TAGLVL};
-ghost use Rattle.layout.specs.Sizes.{BEGUN};
 ghost use Rattle.member_laws.specs.Members.{begun_at};
 ghost use Rattle.member_bits.specs.Having.{Has};
 ghost use Rattle.begun_bits.specs.Levels.{Puts};
 
 use layout::{BEGUN, BEGUN_WORDS};
 use member_bits::Bits;
-
-// All the bits are there: of an array behind a reference this is known by a call only.
-fn whole(begun: [u32; BEGUN])
-    ensures { length begun ≡ BEGUN }
-{}
 
 // The members of the level that have begun.
 pub fn begun_at(begun: &[u32; BEGUN], level: usize) -> Bits
@@ -38,7 +32,6 @@ pub fn put(begun: &mut [u32; BEGUN], level: usize, b: Bits)
     requires { level ≤ TAGLVL }
     ensures { Puts level b begun.old begun.new }
 {
-    whole(*begun);
     let i = level * BEGUN_WORDS;
     begun[i] = (b.low % 4294967296) as u32;
     begun[i + 1] = (b.low / 4294967296 % 4294967296) as u32;

@@ -1,5 +1,5 @@
 -- Four numbers of the table as one, and three of those as members.
-use Rattle.std.specs.Prelude.{ℕ, ◌+◌, ◌-◌, ◌*◌, ◌/◌, ◌%◌, ◌^◌, ◌≤◌, ◌<◌, ◌≡◌, List, get_or, eqb}
+use Rattle.std.specs.Prelude.{ℕ, ◌+◌, ◌-◌, ◌*◌, ◌/◌, ◌%◌, ◌^◌, ◌≤◌, ◌<◌, ◌≡◌, refl, List, get_or, eqb}
 use Rattle.std.proofs.Common.{◌∙◌, ap, ap₂, arith}
 use Rattle.std.proofs.Math.Decide.{dec_lt}
 use Rattle.member_laws.specs.Members.{bit_at}
@@ -27,8 +27,16 @@ module _ (M : List ℕ) (i a b c d : ℕ) (at_a : a ≡ get_or M i 0) (at_b : b 
   bit_at_lem k l (no x) (no y) (yes z) = above 16 (b * 256 + a) (d * 256 + c) (omega arith) k (omega arith) ∙ low_bit 8 c d few_c (k - 16) (omega arith) ∙ byte (i + 2) c (k - 16) k at_c (omega arith) (omega arith)
   bit_at_lem k l (no x) (no y) (no z) = above 16 (b * 256 + a) (d * 256 + c) (omega arith) k (omega arith) ∙ above 8 c d few_c (k - 16) (omega arith) ∙ byte (i + 3) d (k - 16 - 8) k at_d (omega arith) (omega arith)
 
-  pub word_of : Word M i ((d * 256 + c) * 65536 + (b * 256 + a))
+  word_of : Word M i ((d * 256 + c) * 65536 + (b * 256 + a))
   word_of = record { bits = λ k l. bit_at_lem k l (dec_lt k 8) (dec_lt k 16) (dec_lt k 24); small = omega arith }
+
+-- The four bytes as std reads them.
+module _ (M : List ℕ) (i : ℕ) (bytes : (k : ℕ) → get_or M k 0 < 256) where
+  pub word_read : (r : ℕ) → r ≡ get_or M i 0 + get_or M (i + 1) 0 * 256 + get_or M (i + 2) 0 * 65536 + get_or M (i + 3) 0 * 16777216 → Word M i r
+  word_read r is = rw (sum _ _ _ _ is) (word_of M i _ _ _ _ refl refl refl refl (bytes i) (bytes (i + 1)) (bytes (i + 2)) (bytes (i + 3)))
+    where
+      sum : (a b c d : ℕ) → r ≡ a + b * 256 + c * 65536 + d * 16777216 → r ≡ (d * 256 + c) * 65536 + (b * 256 + a)
+      sum a b c d e = omega arith
 
 -- Three words have the bits of 96 members.
 module _ (M : List ℕ) (i : ℕ) where

@@ -11,6 +11,15 @@ ghost use Rattle.member_numbers.specs.Words.{Word};
 use layout::{ElementNo, GROUP, MEMBER, MEMBER_BITS, NEEDED, POSITIONS, Place, REACHES, SETS};
 use member_bits::Bits;
 
+// The table of members, which is whole, and the element of which it is asked.
+#[derive(Clone, Copy)]
+pub struct Members<'a> {
+    pub table: &'a [u8],
+    pub e: ElementNo,
+    pub ghost whole: { MEMBERS ≤ length table.now },
+    pub ghost numbered: { e.0 ≤ element_limit },
+}
+
 // A number of the table.
 fn number(members: &[u8], i: usize) -> usize
     requires { i < length members.now }
@@ -19,62 +28,12 @@ fn number(members: &[u8], i: usize) -> usize
     numbers::wide(members[i])
 }
 
-// The innermost member that holds the place p of the element e, and `ENDING` more where p can end it; or 0.
-pub fn holder(members: &[u8], e: ElementNo, p: Place) -> usize
-    requires in_bounds { MEMBERS ≤ length members.now }
-    requires e_le_element_limit { (e.0 ≤ element_limit) × (p.0 ≤ GRPGTCNT) }
-    ensures { (result ≡ holder_at members.now e.0 p.0) × (result ≤ 255) }
-{
-    number(members, e.0 * MEMBER + p.0)
-}
-
-// The group of the member h.
-pub fn group_of(members: &[u8], e: ElementNo, h: usize) -> usize
-    requires in_bounds { MEMBERS ≤ length members.now }
-    requires e_le_element_limit { (e.0 ≤ element_limit) × (h ≤ 255) }
-    ensures { (result ≡ group_at members.now e.0 h) × (result ≤ 255) }
-{
-    number(members, e.0 * MEMBER + POSITIONS + h)
-}
-
-// The place that the member h requires at its start, or 0.
-pub fn required_of(members: &[u8], e: ElementNo, h: usize) -> usize
-    requires in_bounds { MEMBERS ≤ length members.now }
-    requires e_le_element_limit { (e.0 ≤ element_limit) × (h ≤ 255) }
-    ensures { (result ≡ due_at members.now e.0 h) × (result ≤ 255) }
-{
-    number(members, e.0 * MEMBER + 2 * POSITIONS + h)
-}
-
-// What is kept of the group g: the number of its first member; how many members cannot be nothing, which are numbered first; how many there are; the
-// innermost member that holds the group, and `ENDING` more where it can end with the group, or 0.
-pub fn of_group(members: &[u8], e: ElementNo, g: usize, which: usize) -> usize
-    requires in_bounds { MEMBERS ≤ length members.now }
-    requires e_le_element_limit { (e.0 ≤ element_limit) × (g ≤ 255) × (which ≤ 3) }
-    ensures { (result ≡ get_or members.now (record_at members.now e.0 g + which) 0) × (result ≤ 255) }
-{
-    number(members, e.0 * MEMBER + 3 * POSITIONS + g * GROUP + which)
-}
-
-// The outermost group around the group g that can end with it, each of those between with it.
-pub fn reach_of(members: &[u8], e: ElementNo, g: usize) -> usize
-    requires in_bounds { MEMBERS ≤ length members.now }
-    requires e_le_element_limit { (e.0 ≤ element_limit) × (g ≤ 255) }
-    ensures { (result ≡ reach_at members.now e.0 g) × (result ≤ 255) }
-{
-    number(members, e.0 * MEMBER + REACHES + g)
-}
-
 // Four numbers of the table as one, the lowest first.
 fn word(members: &[u8], i: usize) -> usize
     requires { i + 4 ≤ length members.now }
     ensures { Word members.now i result }
 {
-    let a = number(members, i);
-    let b = number(members, i + 1);
-    let c = number(members, i + 2);
-    let d = number(members, i + 3);
-    (d * 256 + c) * 65536 + (b * 256 + a)
+    u32::from_le_bytes([members[i], members[i + 1], members[i + 2], members[i + 3]]) as usize
 }
 
 // The members whose bits stand from i on.
@@ -91,32 +50,71 @@ fn bits_at(members: &[u8], i: usize) -> Bits
     }
 }
 
-// The members of the element e that cannot be nothing.
-pub fn needed(members: &[u8], e: ElementNo) -> Bits
-    requires in_bounds { MEMBERS ≤ length members.now }
-    requires e_le_element_limit { e.0 ≤ element_limit }
-    ensures { Has result (is_needed members.now e.0) }
-{
-    bits_at(members, e.0 * MEMBER + NEEDED)
-}
+impl<'a> Members<'a> {
+    // The innermost member that holds the place p, and `ENDING` more where p can end it; or 0.
+    pub fn holder(self, p: Place) -> usize
+        requires { p.0 ≤ GRPGTCNT }
+        ensures { (result ≡ holder_at self.entry.table.now self.entry.e.0 p.0) × (result ≤ 255) }
+    {
+        number(self.table, self.e.0 * MEMBER + p.0)
+    }
 
-// The members that hold the group g, from the innermost to the outermost.
-pub fn holding(members: &[u8], e: ElementNo, g: usize) -> Bits
-    requires in_bounds { MEMBERS ≤ length members.now }
-    requires e_le_element_limit { (e.0 ≤ element_limit) × (g ≤ AND_GROUPS) }
-    ensures { Has result (holds_at members.now e.0 g) }
-{
-    bits_at(members, e.0 * MEMBER + SETS + g * (2 * MEMBER_BITS))
-}
+    // The group of the member h.
+    pub fn group_of(self, h: usize) -> usize
+        requires { h ≤ 255 }
+        ensures { (result ≡ group_at self.entry.table.now self.entry.e.0 h) × (result ≤ 255) }
+    {
+        number(self.table, self.e.0 * MEMBER + POSITIONS + h)
+    }
 
-// The members of the group g and of those around it.
-pub fn among(members: &[u8], e: ElementNo, g: usize) -> Bits
-    requires in_bounds { MEMBERS ≤ length members.now }
-    requires e_le_element_limit { (e.0 ≤ element_limit) × (g ≤ AND_GROUPS) }
-    ensures { Has result (among_at members.now e.0 g) }
-{
-    bits_at(
-        members,
-        e.0 * MEMBER + SETS + g * (2 * MEMBER_BITS) + MEMBER_BITS,
-    )
+    // The place that the member h requires at its start, or 0.
+    pub fn required_of(self, h: usize) -> usize
+        requires { h ≤ 255 }
+        ensures { (result ≡ due_at self.entry.table.now self.entry.e.0 h) × (result ≤ 255) }
+    {
+        number(self.table, self.e.0 * MEMBER + 2 * POSITIONS + h)
+    }
+
+    // What is kept of the group g: the number of its first member; how many members cannot be nothing, which are numbered first; how many there are; the
+    // innermost member that holds the group, and `ENDING` more where it can end with the group, or 0.
+    pub fn of_group(self, g: usize, which: usize) -> usize
+        requires { (g ≤ 255) × (which ≤ 3) }
+        ensures { (result ≡ get_or self.entry.table.now (record_at self.entry.table.now self.entry.e.0 g + which) 0) × (result ≤ 255) }
+    {
+        number(self.table, self.e.0 * MEMBER + 3 * POSITIONS + g * GROUP + which)
+    }
+
+    // The outermost group around the group g that can end with it, each of those between with it.
+    pub fn reach_of(self, g: usize) -> usize
+        requires { g ≤ 255 }
+        ensures { (result ≡ reach_at self.entry.table.now self.entry.e.0 g) × (result ≤ 255) }
+    {
+        number(self.table, self.e.0 * MEMBER + REACHES + g)
+    }
+
+    // The members of the element that cannot be nothing.
+    pub fn needed(self) -> Bits
+        ensures { Has result (is_needed self.entry.table.now self.entry.e.0) }
+    {
+        bits_at(self.table, self.e.0 * MEMBER + NEEDED)
+    }
+
+    // The members that hold the group g, from the innermost to the outermost.
+    pub fn holding(self, g: usize) -> Bits
+        requires { g ≤ AND_GROUPS }
+        ensures { Has result (holds_at self.entry.table.now self.entry.e.0 g) }
+    {
+        bits_at(self.table, self.e.0 * MEMBER + SETS + g * (2 * MEMBER_BITS))
+    }
+
+    // The members of the group g and of those around it.
+    pub fn among(self, g: usize) -> Bits
+        requires { g ≤ AND_GROUPS }
+        ensures { Has result (among_at self.entry.table.now self.entry.e.0 g) }
+    {
+        bits_at(
+            self.table,
+            self.e.0 * MEMBER + SETS + g * (2 * MEMBER_BITS) + MEMBER_BITS,
+        )
+    }
 }

@@ -4,4 +4,4 @@ use Rattle.begun_bits.specs.Stores.{puts}
 use Rattle.begun_bits.proofs.put.Goals as goal
 
 pub returns : goal.returns
-returns c = puts _ _ _ _ _ _ _ _ _ (omega arith) (omega (arith, c.whole.ensures)) (omega arith) (omega arith) (omega arith) (omega arith) (omega arith) (omega arith)
+returns c = puts _ _ _ _ _ _ _ _ _ (omega arith) c.told-begun (omega arith) (omega arith) (omega arith) (omega arith) (omega arith) (omega arith)
