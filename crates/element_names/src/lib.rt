@@ -50,8 +50,7 @@ pub fn declared(s: &[u8], elements: &[u32; RECORDS], count: usize, at: usize, si
     ensures compared_le_count { result.compared ≤ count }
 {
     let mut n = 0;
-    let mut k = 0;
-    while k < count {
+    for k in 0..count {
         if is_alike(s, elements, k, at, size) {
             if words::same_text(s, number(elements, RECORD * k), s, at, size) {
                 return Lookup {
@@ -61,7 +60,6 @@ pub fn declared(s: &[u8], elements: &[u32; RECORDS], count: usize, at: usize, si
             }
             n += 1;
         }
-        k += 1;
     }
     Lookup {
         found: false,
