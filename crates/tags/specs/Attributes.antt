@@ -49,6 +49,22 @@ module _ (long : ℕ) (s : List ℕ) (i e : ℕ) (q : e ≡ name_end s i) where
     unfolding specifications_on
     start_ends g = start_on ∙ rw (specifications_on, eq-eqb _ _ g)
 
+-- The attribute at j stands in the text, behind the position before.
+module _ (long : ℕ) (s : List ℕ) (j : ℕ) {w : code.Written} (l : letter (byte_at s j) ≡ true) (r : specification long s j ≡ got (written_as w)) where
+  pub written_in : WrittenIn (length s) w
+  written_in =
+      let h = got_so (specification_read long s j l) r in
+      let f = h.parted in
+      let k = h.inside in
+      (omega arith, omega arith)
+
+  pub written_on : j < w.quote
+  written_on =
+      let h = got_so (specification_read long s j l) r in
+      let f = h.parted in
+      let k = h.at in
+      omega arith
+
 -- Nothing is kept of a tag that gives none.
 pub read_none : (end : ℕ) (g : List ℕ) → ReadAs end g 0 []
 read_none end g = record { kept = kept_none g; inside = given_none end g }
@@ -66,22 +82,8 @@ module _ (long : ℕ) (s : List ℕ) (i e : ℕ) where
   pub goes_first : (first : ℕ) (g : List ℕ) → first ≤ length s → Goes long s i e (specifications_on long (length s) s i e first []) g 0 first
   goes_first first g h = record { turns = length s; ws = []; enough = omega arith; inside = h; due = refl; read = read_none (length s) g }
 
-  -- The attribute at j stands in the text, behind the position before.
+  -- The attribute at j is read, and those behind it.
   module _ (j : ℕ) (l : letter (byte_at s j) ≡ true) (w : code.Written) (r : specification long s j ≡ got (written_as w)) where
-    pub written_in : WrittenIn (length s) w
-    written_in =
-        let h = got_so (specification_read long s j l) r in
-        let f = h.parted in
-        let k = h.inside in
-        (omega arith, omega arith)
-
-    pub written_on : j < w.quote
-    written_on =
-        let h = got_so (specification_read long s j l) r in
-        let f = h.parted in
-        let k = h.at in
-        omega arith
-
     read_one : (turns : ℕ) (ws : List Written) → specifications_on long turns s i e j ws ≡ specifications long turns s i e (w.quote + 1 + w.width + 1) (ws ++ written_as w ∷ [])
     unfolding specifications_on
     read_one turns ws = rw (specifications_on, ne_eqb _ _ (letter_no_close _ l), l, r)
@@ -101,8 +103,8 @@ module _ (long : ℕ) (s : List ℕ) (i e : ℕ) where
         by_turns : (turns : ℕ) → length s ≤ turns + j → specifications_on long turns s i e j a.ws ≡ x → Goes long s i e x g' m k
         by_turns zero h d = absurd (omega (arith, h, letter_in s j l))
         by_turns (suc turns) h d =
-            let v = written_in j l w r in
-            let f = written_on j l w r in
+            let v = written_in long s j l r in
+            let f = written_on long s j l r in
             let from = separators_end_from s (w.quote + w.width + 2) in
             record {
               turns = turns;

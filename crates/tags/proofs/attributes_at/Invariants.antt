@@ -5,8 +5,8 @@ use lib.ListN.{length}
 use Rattle.tags.specs.Attributes.{specifications_on, Goes}
 use Rattle.tags.proofs.attributes_at.Given as goal
 
-abbrev pub invariant-loop-r : goal.invariant-loop-r
-invariant-loop-r l = Goes l.long l.s l.i l.e (specifications_on l.long (length l.s) l.s l.i l.e l.initial.j []) l.given l.n l.j
+abbrev pub invariant-loop-j : goal.invariant-loop-j
+invariant-loop-j l = Goes l.long l.s l.i l.e (specifications_on l.long (length l.s) l.s l.i l.e l.initial.j []) l.given l.n l.j
 
-abbrev pub decreases-loop-r : goal.decreases-loop-r
-decreases-loop-r l = length l.s - l.j
+abbrev pub decreases-loop-j : goal.decreases-loop-j
+decreases-loop-j l = length l.s - l.j

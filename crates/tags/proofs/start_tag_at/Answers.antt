@@ -1,9 +1,10 @@
 -- `start_tag_at` meets its contract: each way by the tests that led there.
-use mathlib.Core.Path.{sym, ◌∙◌}
+use mathlib.Core.Path.{sym, ap, ◌∙◌}
 use mathlib.Core.List.{[]}
 use native.Mathlib.Omega.{arith}
 use lib.ListN.{length}
 use Rattle.rules.specs.Bytes.{MDC}
+use Rattle.text.specs.Refusal.{refusal_of}
 use Rattle.text.specs.Words.{byte_is_in, name_end_from, name_end_le, separators_end_from, separators_end_le}
 use Rattle.tags.specs.Attributes.{start_long, start_on, start_ends, read_none}
 use Rattle.tags.proofs.start_tag_at.Goals as goal
@@ -14,7 +15,7 @@ overflow_sub-size c = let a = c.args in
 
 pub returns-then-long-size : goal.returns-then-long-size
 returns-then-long-size c = let a = c.args in
-    start_long a.long a.s.now a.i _ c.name_end-e.ensures (omega arith)
+    start_long a.long a.s.now a.i _ c.name_end-e.ensures (omega arith) ∙ sym (ap refusal_of c.at.ensures)
 
 pub separators_end-j-requires : goal.separators_end-j-requires
 separators_end-j-requires c = let a = c.args in

@@ -1,7 +1,8 @@
 -- `tag_at` meets its contract: each way by the tests that led there.
-use mathlib.Core.Path.{sym, ◌∙◌}
+use mathlib.Core.Path.{sym, ap, ◌∙◌}
 use native.Mathlib.Omega.{arith}
 use Rattle.rules.specs.Bytes.{MDC}
+use Rattle.text.specs.Refusal.{refusal_of}
 use Rattle.text.specs.Words.{byte_is_in, name_end_from, name_end_le}
 use Rattle.tags.specs.Tags.{tag_long, tag_read, tag_open}
 use Rattle.tags.proofs.tag_at.Goals as goal
@@ -12,7 +13,7 @@ overflow_sub-e c = let a = c.args in
 
 pub returns-then-long-e : goal.returns-then-long-e
 returns-then-long-e c = let a = c.args in
-    tag_long a.long a.s.now a.i _ c.name_end-e.ensures (omega arith)
+    ap refusal_of c.at.ensures ∙ tag_long a.long a.s.now a.i _ c.name_end-e.ensures (omega arith)
 
 pub separators_end-j-requires : goal.separators_end-j-requires
 separators_end-j-requires c = let a = c.args in
@@ -32,4 +33,4 @@ returns-then-byte-eq62 c = let a = c.args in
 
 pub returns : goal.returns
 returns c = let a = c.args in
-    tag_open a.long a.s.now a.i _ c.name_end-e.ensures _ c.separators_end-j.ensures (omega arith) (λ e. c.if-byte-eq62.false (c.byte.ensures ∙ e))
+    ap refusal_of c.at-2.ensures ∙ tag_open a.long a.s.now a.i _ c.name_end-e.ensures _ c.separators_end-j.ensures (omega arith) (λ e. c.if-byte-eq62.false (c.byte.ensures ∙ e))
