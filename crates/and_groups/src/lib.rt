@@ -7,6 +7,7 @@
 #![tactic(auto)]
 
 ghost use Rattle.std.specs.Prelude.{ℕ, ◌-◌, ◌≤◌, ◌<◌, IfSome};
+ghost use Rattle.layout.specs.declared.Place.{Place};
 ghost use Rattle.rules.specs.Bytes.{GRPGTCNT, TAGLVL, element_limit};
 ghost use Rattle.layout.specs.Sizes.{AND_GROUPS, ENDING};
 ghost use Rattle.member_laws.specs.Members.{group_at};
@@ -106,7 +107,8 @@ pub fn take(
     p: Place,
 ) -> Option<Place>
     requires { (level ≤ TAGLVL) × (e.0 ≤ element_limit) × (u.0 ≤ GRPGTCNT) × (p.0 ≤ GRPGTCNT) }
-    ensures { Takes members.now level e.0 u.0 p.0 begun.old begun.new (answer_of result) }
+    ensures few { IfSome result (λ (x : Place). x.0 ≤ GRPGTCNT) }
+    ensures value { Takes members.now level e.0 u.0 p.0 begun.old begun.new (answer_of result) }
 {
     if members.len() < MEMBERS {
         return None;

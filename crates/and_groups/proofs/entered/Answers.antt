@@ -12,6 +12,4 @@ pub returns-then-g-gt-AND_GROUPS : goal.returns-then-g-gt-AND_GROUPS
 returns-then-g-gt-AND_GROUPS c = enters_far _ _ _ _ _ c.group_of-g.ensures.0 c.if-g-gt-AND_GROUPS.true
 
 pub returns : goal.returns
-returns c = let more = c.before.before.before in
-    let grouped = more.before.before in
-    enters_all _ _ _ grouped.if-h-eq0.false _ _ _ _ _ grouped.group_of-g.ensures.0 more.with.ensures c.holding.ensures c.joined.ensures
+returns c = enters_all _ _ _ c.if-h-eq0.false _ _ _ _ _ c.group_of-g.ensures.0 c.with.ensures c.holding.ensures c.bitor.ensures

@@ -8,10 +8,10 @@ pub returns-then-x-gt-GRPGTCNT : goal.returns-then-x-gt-GRPGTCNT
 returns-then-x-gt-GRPGTCNT c = due_large _ _ _ _ _ (omega arith) c.if-x-gt-GRPGTCNT.true
 
 pub returns-then-not-is_alone : goal.returns-then-not-is_alone
-returns-then-not-is_alone c = due_other _ _ _ _ _ (omega (arith, c.requires)) _ refl _ c.group_of-g.ensures.0 _ _ _ c.among.ensures c.without-idle.ensures c.above.ensures _ c.first-y.ensures.1 _ c.is_alone.ensures c.if-not-is_alone.true
+returns-then-not-is_alone c = due_other _ _ _ _ _ (omega (arith, c.requires)) _ refl _ c.group_of-g.ensures.0 _ _ _ c.among.ensures c.sub-idle.ensures c.above.ensures _ c.first-y.ensures.value _ c.is_alone.ensures c.if-not-is_alone.true
 
 pub returns-then-p-gt-GRPGTCNT : goal.returns-then-p-gt-GRPGTCNT
-returns-then-p-gt-GRPGTCNT c = due_more _ _ _ _ _ (omega (arith, c.requires)) _ refl _ c.group_of-g.ensures.0 _ _ _ c.among.ensures c.without-idle.ensures c.above.ensures _ c.first-y.ensures.1 _ c.is_alone.ensures _ c.required_of-p.ensures.0 c.if-not-is_alone.false c.if-p-gt-GRPGTCNT.true
+returns-then-p-gt-GRPGTCNT c = due_more _ _ _ _ _ (omega (arith, c.requires)) _ refl _ c.group_of-g.ensures.0 _ _ _ c.among.ensures c.sub-idle.ensures c.above.ensures _ c.first-y.ensures.value _ c.is_alone.ensures _ c.required_of-p.ensures.0 c.if-not-is_alone.false c.if-p-gt-GRPGTCNT.true
 
 pub returns : goal.returns
-returns c = due_lone _ _ _ _ _ (omega (arith, c.requires)) _ refl _ c.group_of-g.ensures.0 _ _ _ c.among.ensures c.without-idle.ensures c.above.ensures _ c.first-y.ensures.1 _ c.is_alone.ensures _ c.required_of-p.ensures.0 c.if-not-is_alone.false c.if-p-gt-GRPGTCNT.false
+returns c = due_lone _ _ _ _ _ (omega (arith, c.requires)) _ refl _ c.group_of-g.ensures.0 _ _ _ c.among.ensures c.sub-idle.ensures c.above.ensures _ c.first-y.ensures.value _ c.is_alone.ensures _ c.required_of-p.ensures.0 c.if-not-is_alone.false c.if-p-gt-GRPGTCNT.false
