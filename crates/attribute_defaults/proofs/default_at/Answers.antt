@@ -11,7 +11,7 @@ use Rattle.attribute_defaults.proofs.default_at.Goals as goal
 pub returns-then-is_joined : goal.returns-then-is_joined
 returns-then-is_joined c = let a = c.args in
     let o = a.long in
-    rw c.refusal.ensures (λ y d. (hash_joined o a.s.now y a.from a.i (sym c.byte-b.ensures ∙ c.if-b-eq35.true) (sym (c.is_joined.ensures o a.s.now y d) ∙ c.if-is_joined.true)), tt)
+    rw c.at.ensures (λ y d. (hash_joined o a.s.now y a.from a.i (sym c.byte-b.ensures ∙ c.if-b-eq35.true) (sym (c.is_joined.ensures o a.s.now y d) ∙ c.if-is_joined.true)), tt)
 
 pub word_at-requires : goal.word_at-requires
 word_at-requires c = let a = c.args in
@@ -33,7 +33,7 @@ returns-then-not-is_quote c = let a = c.args in (
 pub returns-then-is_joined-2 : goal.returns-then-is_joined-2
 returns-then-is_joined-2 c = let a = c.args in
     let o = a.long in
-    rw c.refusal-then-is_joined-2.ensures (
+    rw c.at-then-is_joined-2.ensures (
       λ y d. quote_joined o a.s.now y a.from a.i (λ e. c.if-b-eq35.false (c.byte-b.ensures ∙ e)) (tested quote c.byte-b.ensures c.is_quote.ensures c.if-not-is_quote.false)
           (sym (c.is_joined-2.ensures o a.s.now y d) ∙ c.if-is_joined-2.true),
       tt,

@@ -11,7 +11,7 @@ use Rattle.attribute_defaults.proofs.word_at.Goals as goal
 
 pub returns-then-not-is_letter : goal.returns-then-not-is_letter
 returns-then-not-is_letter c = let a = c.args in
-    rw c.refusal.ensures (sym (word_none a.s.now a.i (tested letter c.byte.ensures c.is_letter.ensures c.if-not-is_letter.true)), tt)
+    rw c.at.ensures (sym (word_none a.s.now a.i (tested letter c.byte.ensures c.is_letter.ensures c.if-not-is_letter.true)), tt)
 
 -- The word ends in the text.
 inside : (s : List ℕ) (i e : ℕ) → i < length s → e ≡ name_end s (i + 1) → (i + 1 ≤ e) × (e ≤ length s)
@@ -36,7 +36,7 @@ is_cut-requires c = omega (arith, inside _ _ _ c.requires.0 c.name_end-e.ensures
 
 pub returns-then-is_cut : goal.returns-then-is_cut
 returns-then-is_cut c = let a = c.args in
-    rw c.refusal-then-is_cut.ensures
+    rw c.at-then-is_cut.ensures
     (word_cut a.s.now a.i (tested letter c.byte.ensures c.is_letter.ensures c.if-not-is_letter.false) _ c.name_end-e.ensures c.is_word.ensures c.if-is_word.false c.is_word-2.ensures c.if-is_word-2.false c.is_cut.ensures c.if-is_cut.true, tt)
 
 pub is_cut-requires-2 : goal.is_cut-requires-2
@@ -44,7 +44,7 @@ is_cut-requires-2 c = omega (arith, inside _ _ _ c.requires.0 c.name_end-e.ensur
 
 pub returns-then-is_cut-2 : goal.returns-then-is_cut-2
 returns-then-is_cut-2 c = let a = c.args in
-    rw c.refusal-then-is_cut-2.ensures (
+    rw c.at-then-is_cut-2.ensures (
       word_cut_too a.s.now a.i (tested letter c.byte.ensures c.is_letter.ensures c.if-not-is_letter.false) _ c.name_end-e.ensures c.is_word.ensures c.if-is_word.false c.is_word-2.ensures c.if-is_word-2.false c.is_cut.ensures c.if-is_cut.false
           c.is_cut-2.ensures c.if-is_cut-2.true,
       tt,
@@ -52,7 +52,7 @@ returns-then-is_cut-2 c = let a = c.args in
 
 pub returns : goal.returns
 returns c = let a = c.args in
-    rw c.refusal-2.ensures (
+    rw c.at-2.ensures (
       word_wrong a.s.now a.i (tested letter c.byte.ensures c.is_letter.ensures c.if-not-is_letter.false) _ c.name_end-e.ensures c.is_word.ensures c.if-is_word.false c.is_word-2.ensures c.if-is_word-2.false c.is_cut.ensures c.if-is_cut.false
           c.is_cut-2.ensures c.if-is_cut-2.false,
       tt,
