@@ -3,86 +3,83 @@ use Prim.Native.Nat.{◌+◌, ◌≤◌, ◌<◌}
 use mathlib.Core.Path.{sym, ap, ◌∙◌}
 use native.Mathlib.Omega.{arith}
 use lib.ListN.{length}
-use Rattle.rules.specs.Bytes.{ATTCNT, GRPCNT}
 use Rattle.rules.specs.TypeFile.{declared_value}
-use Rattle.text.specs.Words.{gap_range, reached_got, reached_refused}
-use Rattle.name_tokens.specs.Tokens.{parts_of}
-use Rattle.attribute_definitions.specs.Ways.{definition_name, definition_gap, definition_value, definition_between, definition_default, definition_row, value_got, value_stopped, default_got, default_stopped, name_within, value_within, default_within}
+use Rattle.text.specs.Words.{gap_range, passed_on}
+use Rattle.attribute_definitions.specs.Ways.{definition_name, definition_gap, definition_value, definition_between, definition_default, definition_row}
 use Rattle.attribute_definitions.proofs.definition_at.Goals as goal
 
-pub returns-in_default : goal.returns-in_default
-returns-in_default c = let a = c.args in
-    record { meets_definition = λ xs m l p. definition_name a.long a.s.now xs a.from a.i (reached_refused (c.name_at-a.ensures.result_value xs m l) c.in_default.is c.fault_of.ensures); definition_fits = tt }
+pub returns-in_err-e : goal.returns-in_err-e
+returns-in_err-e c = let a = c.args in
+    rw (passed_on _ c.from_residual.ensures.1) record { meets_definition = λ xs m l p. definition_name a.long a.s.now xs a.from a.i (sym (c.in_err-e.ensures.result_value xs m l)); definition_fits = tt }
 
-pub gap_end-g-requires : goal.gap_end-g-requires
-gap_end-g-requires c = (name_within c.name_at-a.ensures.name_fits c.in-At.is).1
+pub gap_end-requires : goal.gap_end-requires
+gap_end-requires c = c.in_ok-e.ensures.name_fits.1
 
-pub returns-in_default-g : goal.returns-in_default-g
-returns-in_default-g c = let a = c.args in record {
-  meets_definition = λ xs m l p.
-      definition_gap a.long a.s.now xs a.from a.i (reached_got (c.name_at-a.ensures.result_value xs m l) c.in-At.is) (reached_refused c.gap_end-g.ensures c.in_default-g.is c.fault_of-in_default-g.ensures);
-  definition_fits = tt;
-}
+pub returns-in_err-j : goal.returns-in_err-j
+returns-in_err-j c = let a = c.args in
+    rw (passed_on _ c.from_residual-in_err-j.ensures.1)
+    record { meets_definition = λ xs m l p. definition_gap a.long a.s.now xs a.from a.i (sym (c.in_ok-e.ensures.result_value xs m l)) (sym c.in_err-j.ensures); definition_fits = tt }
 
-pub value_at-v-requires : goal.value_at-v-requires
-value_at-v-requires c = let a = c.args in
-    let n = name_within c.name_at-a.ensures.name_fits c.in-At.is in
-    omega (arith, n, gap_range a.s.now _ _ n.1 (reached_got c.gap_end-g.ensures c.in-At-g.is))
+pub value_at-requires : goal.value_at-requires
+value_at-requires c = let a = c.args in
+    let n = c.in_ok-e.ensures.name_fits in
+    omega (arith, n, gap_range a.s.now _ _ n.1 (sym c.in_ok-j.ensures))
 
-pub returns-in_default-v : goal.returns-in_default-v
-returns-in_default-v c = let a = c.args in
-    let o = a.long in record {
+pub returns-in_err-v : goal.returns-in_err-v
+returns-in_err-v c = let a = c.args in
+    let o = a.long in
+    rw (passed_on _ c.from_residual-in_err-v.ensures.1) record {
       meets_definition = λ xs m l p.
-          definition_value o a.s.now xs a.from a.i (reached_got (c.name_at-a.ensures.result_value xs m l) c.in-At.is) (reached_got c.gap_end-g.ensures c.in-At-g.is)
-          (ap (λ ts. declared_value o a.s.now ts c.in-At-g.j) (sym p) ∙ value_stopped o a.s.now _ (parts_of a.seen.now a.m) _ _ c.value_at-v.ensures.meets_value c.in_default-v.is c.fault_of_value.ensures);
+          definition_value o a.s.now xs a.from a.i (sym (c.in_ok-e.ensures.result_value xs m l)) (sym c.in_ok-j.ensures)
+          (ap (λ ts. declared_value o a.s.now ts c.in_ok-j.j) (sym p) ∙ c.in_err-v.ensures.meets_value);
       definition_fits = tt;
     }
 
-pub gap_end-h-requires : goal.gap_end-h-requires
-gap_end-h-requires c = (value_within c.args.m c.value_at-v.ensures.value_fits c.in-Read.is).2
+pub gap_end-requires-2 : goal.gap_end-requires-2
+gap_end-requires-2 c = c.in_ok-v.ensures.value_fits.2
 
-pub returns-in_default-h : goal.returns-in_default-h
-returns-in_default-h c = let a = c.args in
-    let o = a.long in record {
+pub returns-in_err-l : goal.returns-in_err-l
+returns-in_err-l c = let a = c.args in
+    let o = a.long in
+    rw (passed_on _ c.from_residual-in_err-l.ensures.1) record {
       meets_definition = λ xs m l p.
-          let v = value_got o a.s.now _ (parts_of a.seen.now a.m) _ _ c.value_at-v.ensures.meets_value c.in-Read.is in
-          definition_between o a.s.now xs a.from a.i (reached_got (c.name_at-a.ensures.result_value xs m l) c.in-At.is) (reached_got c.gap_end-g.ensures c.in-At-g.is)
-          (ap (λ ts. declared_value o a.s.now ts c.in-At-g.j) (sym p) ∙ v.read) (reached_refused c.gap_end-h.ensures c.in_default-h.is c.fault_of-in_default-h.ensures);
+          definition_between o a.s.now xs a.from a.i (sym (c.in_ok-e.ensures.result_value xs m l)) (sym c.in_ok-j.ensures)
+          (ap (λ ts. declared_value o a.s.now ts c.in_ok-j.j) (sym p) ∙ c.in_ok-v.ensures.meets_value.read) (sym c.in_err-l.ensures);
       definition_fits = tt;
     }
 
-pub default_at-d-requires : goal.default_at-d-requires
-default_at-d-requires c = let a = c.args in
-    let n = name_within c.name_at-a.ensures.name_fits c.in-At.is in
-    let v = value_within c.args.m c.value_at-v.ensures.value_fits c.in-Read.is in
-    omega (arith, n, v, gap_range a.s.now _ _ n.1 (reached_got c.gap_end-g.ensures c.in-At-g.is), gap_range a.s.now _ _ v.2 (reached_got c.gap_end-h.ensures c.in-At-h.is))
+pub default_at-requires : goal.default_at-requires
+default_at-requires c = let a = c.args in
+    let n = c.in_ok-e.ensures.name_fits in
+    let v = c.in_ok-v.ensures.value_fits in
+    omega (arith, n, v, gap_range a.s.now _ _ n.1 (sym c.in_ok-j.ensures), gap_range a.s.now _ _ v.2 (sym c.in_ok-l.ensures))
 
-pub returns-in_default-d : goal.returns-in_default-d
-returns-in_default-d c = let a = c.args in
-    let o = a.long in record {
+pub returns-in_err-d : goal.returns-in_err-d
+returns-in_err-d c = let a = c.args in
+    let o = a.long in
+    rw (passed_on _ c.from_residual-in_err-d.ensures.1) record {
       meets_definition = λ xs m l p.
-          let v = value_got o a.s.now _ (parts_of a.seen.now a.m) _ _ c.value_at-v.ensures.meets_value c.in-Read.is in
-          definition_default o a.s.now xs a.from a.i (reached_got (c.name_at-a.ensures.result_value xs m l) c.in-At.is) (reached_got c.gap_end-g.ensures c.in-At-g.is)
-          (ap (λ ts. declared_value o a.s.now ts c.in-At-g.j) (sym p) ∙ v.read) (reached_got c.gap_end-h.ensures c.in-At-h.is)
-          (default_stopped _ _ (c.default_at-d.ensures.0 v.value v.declared) c.in_default-d.is c.fault_of-in_default-d.ensures);
+          let v = c.in_ok-v.ensures.meets_value in
+          definition_default o a.s.now xs a.from a.i (sym (c.in_ok-e.ensures.result_value xs m l)) (sym c.in_ok-j.ensures)
+          (ap (λ ts. declared_value o a.s.now ts c.in_ok-j.j) (sym p) ∙ v.read) (sym c.in_ok-l.ensures)
+          (sym (c.in_err-d.ensures.0 v.value v.declared));
       definition_fits = tt;
     }
 
 pub overflow_sub-result : goal.overflow_sub-result
-overflow_sub-result c = omega (arith, name_within c.name_at-a.ensures.name_fits c.in-At.is)
+overflow_sub-result c = omega (arith, c.in_ok-e.ensures.name_fits)
 
 pub returns : goal.returns
 returns c = let a = c.args in
     let o = a.long in
     let s = a.s.now in
-    let n : (a.i ≤ c.in-At.e) × (c.in-At.e ≤ length s) × (a.n < ATTCNT) = name_within c.name_at-a.ensures.name_fits c.in-At.is in
-    let w : (c.in-Read.value ≤ length s) × (c.in-At-g.j ≤ c.in-Read.f) × (c.in-Read.f ≤ length s) × (c.in-Read.k ≤ a.m + GRPCNT) = value_within a.m c.value_at-v.ensures.value_fits c.in-Read.is in
-    let d : (c.in-Read-d.default + c.in-Read-d.length ≤ length s) × (c.in-At-h.l < c.in-Read-d.z) × (c.in-Read-d.z ≤ length s) = default_within c.default_at-d.ensures.1 c.in-Read-d.is in
-    let first : (c.in-At.e ≤ c.in-At-g.j) × (c.in-At-g.j ≤ length s) = gap_range s _ _ n.1 (reached_got c.gap_end-g.ensures c.in-At-g.is) in
-    let second : (c.in-Read.f ≤ c.in-At-h.l) × (c.in-At-h.l ≤ length s) = gap_range s _ _ w.2 (reached_got c.gap_end-h.ensures c.in-At-h.is) in record {
+    let n = c.in_ok-e.ensures.name_fits in
+    let w = c.in_ok-v.ensures.value_fits in
+    let first : (c.in_ok-e.e ≤ c.in_ok-j.j) × (c.in_ok-j.j ≤ length s) = gap_range s _ _ n.1 (sym c.in_ok-j.ensures) in
+    let second : (c.in_ok-v.v.at ≤ c.in_ok-l.l) × (c.in_ok-l.l ≤ length s) = gap_range s _ _ w.2 (sym c.in_ok-l.ensures) in record {
       meets_definition = λ xs m l p.
-          let v = value_got o a.s.now _ (parts_of a.seen.now a.m) _ _ c.value_at-v.ensures.meets_value c.in-Read.is in
-          definition_row o a.s.now xs a.from a.i _ n.0 n.1 p (reached_got (c.name_at-a.ensures.result_value xs m l) c.in-At.is) (reached_got c.gap_end-g.ensures c.in-At-g.is) v
-          (reached_got c.gap_end-h.ensures c.in-At-h.is) (default_got _ _ (c.default_at-d.ensures.0 v.value v.declared) c.in-Read-d.is);
-      definition_fits = omega (arith, c.requires, n, w, d, first, second);
+          let v = c.in_ok-v.ensures.meets_value in
+          definition_row o a.s.now xs a.from a.i _ n.0 n.1 p (sym (c.in_ok-e.ensures.result_value xs m l)) (sym c.in_ok-j.ensures) v
+          (sym c.in_ok-l.ensures) (sym (c.in_ok-d.ensures.0 v.value v.declared));
+      definition_fits = omega (arith, c.requires, n, w, c.in_ok-d.ensures.1, first, second);
     }

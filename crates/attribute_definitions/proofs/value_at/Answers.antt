@@ -4,26 +4,26 @@ use native.Mathlib.Omega.{arith}
 use lib.ListN.{length}
 use Rattle.rules.specs.Bytes.{letter}
 use Rattle.text.specs.Refusal.{refusal_of}
-use Rattle.text.specs.Words.{tested}
+use Rattle.text.specs.Words.{tested, passed_on}
 use Rattle.gaps.specs.Unfit.{unfit_is}
 use Rattle.name_tokens.specs.Tokens.{parts_of}
-use Rattle.attribute_definitions.specs.Ways.{parenthesis_in, value_refused, value_group, value_word_lem, value_none, group_got, group_refused, group_within, word_meets, word_within}
+use Rattle.attribute_definitions.specs.Ways.{parenthesis_in, value_refused, value_group, value_word_lem, value_none, word_meets, word_within}
 use Rattle.attribute_definitions.proofs.value_at.Goals as goal
 
-pub group_at-g-requires : goal.group_at-g-requires
-group_at-g-requires c = let a = c.args in
+pub group_at-requires : goal.group_at-requires
+group_at-requires c = let a = c.args in
     omega (arith, parenthesis_in a.s.now a.i (sym c.byte-b.ensures ∙ c.if-b-eq40.true))
 
-pub returns-in_default : goal.returns-in_default
-returns-in_default c = let a = c.args in
+pub returns-in_err-g : goal.returns-in_err-g
+returns-in_err-g c = let a = c.args in
     let o = a.long in
     let ts = parts_of a.seen.now a.m in
-    record { meets_value = value_refused o a.s.now ts a.i (sym c.byte-b.ensures ∙ c.if-b-eq40.true) (group_refused _ _ ts _ _ c.group_at-g.ensures.meets_group c.in_default.is c.fault_of.ensures); value_fits = tt }
+    rw (passed_on _ c.from_residual.ensures.1) record { meets_value = value_refused o a.s.now ts a.i (sym c.byte-b.ensures ∙ c.if-b-eq40.true) c.in_err-g.ensures.meets_group; value_fits = tt }
 
 pub returns-then-b-eq40 : goal.returns-then-b-eq40
 returns-then-b-eq40 c = let a = c.args in
     let o = a.long in
-    let ts = parts_of a.seen.now a.m in record { meets_value = value_group o a.s.now ts a.i (sym c.byte-b.ensures ∙ c.if-b-eq40.true) _ a.m _ _ (omega arith) (group_got _ _ ts _ _ c.group_at-g.ensures.meets_group c.in-Read.is); value_fits = omega (arith, group_within c.group_at-g.ensures.group_in c.in-Read.is) }
+    let ts = parts_of a.seen.now a.m in record { meets_value = value_group o a.s.now ts a.i (sym c.byte-b.ensures ∙ c.if-b-eq40.true) _ a.m _ _ (omega arith) c.in_ok-g.ensures.meets_group; value_fits = omega (arith, c.in_ok-g.ensures.group_in) }
 
 pub returns-then-is_letter : goal.returns-then-is_letter
 returns-then-is_letter c = let a = c.args in

@@ -9,7 +9,7 @@ overflow_sub-e c = omega (arith, name_end_from c.args.s.now c.args.i, c.name_end
 
 pub returns-then-long-e : goal.returns-then-long-e
 returns-then-long-e c = let a = c.args in
-    rw c.refusal.ensures (word_long a.long a.s.now a.i _ c.name_end-e.ensures c.if-long-e.true, tt)
+    rw c.at.ensures (word_long a.long a.s.now a.i _ c.name_end-e.ensures c.if-long-e.true, tt)
 
 pub is_word-requires : goal.is_word-requires
 is_word-requires c = omega (arith, name_end_from c.args.s.now c.args.i, name_end_le c.args.s.now c.args.i (omega arith), c.name_end-e.ensures)
@@ -39,7 +39,7 @@ is_cut-requires c = omega (arith, name_end_from c.args.s.now c.args.i, name_end_
 
 pub returns-then-is_cut : goal.returns-then-is_cut
 returns-then-is_cut c = let a = c.args in
-    rw c.refusal-then-is_cut.ensures
+    rw c.at-then-is_cut.ensures
     (word_cut a.long a.s.now a.i _ c.name_end-e.ensures c.if-long-e.false c.is_word.ensures c.if-is_word.false c.is_word-2.ensures c.if-is_word-2.false c.is_word-3.ensures c.if-is_word-3.false c.is_cut.ensures c.if-is_cut.true, tt)
 
 pub is_cut-requires-2 : goal.is_cut-requires-2
@@ -47,7 +47,7 @@ is_cut-requires-2 c = omega (arith, name_end_from c.args.s.now c.args.i, name_en
 
 pub returns-then-is_cut-2 : goal.returns-then-is_cut-2
 returns-then-is_cut-2 c = let a = c.args in
-    rw c.refusal-then-is_cut-2.ensures (
+    rw c.at-then-is_cut-2.ensures (
       word_cut_2 a.long a.s.now a.i _ c.name_end-e.ensures c.if-long-e.false c.is_word.ensures c.if-is_word.false c.is_word-2.ensures c.if-is_word-2.false c.is_word-3.ensures c.if-is_word-3.false c.is_cut.ensures c.if-is_cut.false
           c.is_cut-2.ensures c.if-is_cut-2.true,
       tt,
@@ -58,7 +58,7 @@ is_cut-requires-3 c = omega (arith, name_end_from c.args.s.now c.args.i, name_en
 
 pub returns-then-is_cut-3 : goal.returns-then-is_cut-3
 returns-then-is_cut-3 c = let a = c.args in
-    rw c.refusal-then-is_cut-3.ensures (
+    rw c.at-then-is_cut-3.ensures (
       word_cut_3 a.long a.s.now a.i _ c.name_end-e.ensures c.if-long-e.false c.is_word.ensures c.if-is_word.false c.is_word-2.ensures c.if-is_word-2.false c.is_word-3.ensures c.if-is_word-3.false c.is_cut.ensures c.if-is_cut.false
           c.is_cut-2.ensures c.if-is_cut-2.false c.is_cut-3.ensures c.if-is_cut-3.true,
       tt,
@@ -66,7 +66,7 @@ returns-then-is_cut-3 c = let a = c.args in
 
 pub returns : goal.returns
 returns c = let a = c.args in
-    rw c.refusal-2.ensures (
+    rw c.at-2.ensures (
       word_wrong a.long a.s.now a.i _ c.name_end-e.ensures c.if-long-e.false c.is_word.ensures c.if-is_word.false c.is_word-2.ensures c.if-is_word-2.false c.is_word-3.ensures c.if-is_word-3.false c.is_cut.ensures c.if-is_cut.false
           c.is_cut-2.ensures c.if-is_cut-2.false c.is_cut-3.ensures c.if-is_cut-3.false,
       tt,
