@@ -7,38 +7,39 @@ use Rattle.rules.specs.Bytes.{GRPGTCNT}
 use Rattle.text.specs.declared.Fault.{Fault}
 use Rattle.connectors.specs.declared.Model.{Model}
 use Rattle.connectors.specs.Kept.{Begun, Keeps}
-use Rattle.content_tokens.specs.Meets.{Meets}
+use Rattle.content_tokens.specs.Meets.{Refuses, Meets}
 
-module _ (end : ℕ) (B : Begun) (names table : List ℕ) where
-  pub read_got : (m : Model) (x : Reading Tokens) → Meets end B names table (Ok m) x → (t : Tokens) × (x ≡ got t) × Keeps end B 1 0 names table m t
-  read_got m (refused n k) h = absurd h
-  read_got m (got t) h = (t, refl, h)
+-- A refusal, and one that is passed on from a part.
+pub refuses : {A : Type 0} {f g : Fault} (x : Reading A) → f ≡ g → x ≡ refused g.number g.at → Refuses f x
+refuses x p q = rw (p, q) (refl, refl)
 
-  pub refused_is : (f : Fault) (x : Reading Tokens) → Meets end B names table (Err f) x → x ≡ refused f.number f.at
-  refused_is f (refused n k) h = cc (h.0, h.1)
-  refused_is f (got t) h = absurd h
+pub refused_is : {A : Type 0} (f : Fault) (x : Reading A) → Refuses f x → x ≡ refused f.number f.at
+refused_is f (refused n k) h = cc (h.0, h.1)
+refused_is f (got x) h = absurd h
 
-  pub got_meets : (r : Result Model Fault) (m : Model) (x : Reading Tokens) (t : Tokens) → r ≡ Ok m → x ≡ got t → Keeps end B 1 0 names table m t → Meets end B names table r x
-  got_meets r m x t p q h = rw (p, q) h
+pub refuses_on : {A B : Type 0} (f : Fault) (x : Reading A) (g : A → Reading B) (y : Reading B) → Refuses f x → y ≡ and_then x g → Refuses f y
+refuses_on f x g y h q = refuses y refl (q ∙ ap (λ (z : Reading _). and_then z g) (refused_is f x h))
 
-  pub refused_meets : (r : Result Model Fault) (n k : ℕ) (x : Reading Tokens) → r ≡ Err (record { number = n; at = k }) → x ≡ refused n k → Meets end B names table r x
-  refused_meets r n k x p q = rw (p, q) (refl, refl)
+module _ (end : ℕ) (B : Begun) (names table : List ℕ) (m : Model) (x : Reading Tokens) where
+  pub got_meets : (t : Tokens) → x ≡ got t → Keeps end B 1 0 names table m t → Meets end B names table (Ok m) x
+  got_meets t q h = rw q h
 
-module _ (end : ℕ) (B : Begun) (names table : List ℕ) (r : Result Model Fault) (x : Reading Tokens) (M : Meets end B names table r x) where
-  -- What was read lies within its bounds.
-  pub read_in_lem : (m : Model) → r ≡ Ok m → (m.at ≤ end) × (m.places ≤ m.tokens) × (m.tokens ≤ GRPGTCNT)
-  read_in_lem m e =
-      let w = read_got end B names table m x (rw e at M) in
-      omega (arith, w.2)
+  pub read_got : Meets end B names table (Ok m) x → (t : Tokens) × (x ≡ got t) × Keeps end B 1 0 names table m t
+  read_got = by_case x
+    where
+      by_case : (x : Reading Tokens) → Meets end B names table (Ok m) x → (t : Tokens) × (x ≡ got t) × Keeps end B 1 0 names table m t
+      by_case (refused n k) h = absurd h
+      by_case (got t) h = (t, refl, h)
 
-  -- What was refused stays so, and what was read goes on.
-  pub refused_then : (C : Begun) (f : Fault) (g : Tokens → Reading Tokens) (y : Reading Tokens) → r ≡ Err f → y ≡ and_then x g → Meets end C names table r y
-  refused_then C f g y e q =
-      let z = refused_is end B names table f x (rw e at M) in
-      refused_meets end C names table r f.number f.at y e (q ∙ ap (λ (z : Reading Tokens). and_then z g) z)
+  module _ (M : Meets end B names table (Ok m) x) where
+    -- What was read lies within its bounds.
+    pub read_in_lem : (m.at ≤ end) × (m.places ≤ m.tokens) × (m.tokens ≤ GRPGTCNT)
+    read_in_lem = omega (arith, (read_got M).2)
 
-  pub read_then : (m v : Model) (C : Begun) (table' : List ℕ) (g : Tokens → Tokens) (y : Reading Tokens) → r ≡ Ok m → y ≡ and_then x (λ t. got (g t))
-      → ((t : Tokens) → Keeps end B 1 0 names table m t → Keeps end C 1 0 names table' v (g t)) → Meets end C names table' (Ok v) y
-  read_then m v C table' g y e q h =
-      let w = read_got end B names table m x (rw e at M) in
-      got_meets end C names table' _ v y _ refl (q ∙ ap (λ (z : Reading Tokens). and_then z (λ t. got (g t))) w.1) (h w.0 w.2)
+    -- What was read goes on.
+    pub read_then : (v : Model) (C : Begun) (table' : List ℕ) (g : Tokens → Tokens) (y : Reading Tokens) → y ≡ and_then x (λ t. got (g t))
+        → ((t : Tokens) → Keeps end B 1 0 names table m t → Keeps end C 1 0 names table' v (g t)) → Meets end C names table' (Ok v) y
+    read_then v C table' g y q h =
+        let w = read_got M in
+        let e : y ≡ got (g w.0) = q ∙ ap (λ (z : Reading Tokens). and_then z (λ t. got (g t))) w.1 in
+        rw e (h w.0 w.2)

@@ -11,6 +11,7 @@ use Rattle.group_reader.specs.declared.Next.{Next}
 use Rattle.group_reader.specs.declared.Next.TheVariants.{Closed, Joined}
 use Rattle.text.specs.declared.Fault.{Fault}
 use Rattle.connectors.specs.Kept.{Begun, begun, Keeps}
+use Rattle.content_tokens.specs.Meets.{Refuses}
 
 -- The same start, where one number more is due: that of a group's ")".
 abbrev pub before_end : Begun → Begun
@@ -24,8 +25,7 @@ MeetsFurther end B k names table (Ok (Closed m)) (refused n p) = ⊥
 MeetsFurther end B k names table (Ok (Joined c m)) (got (closed t)) = ⊥
 MeetsFurther end B k names table (Ok (Joined c m)) (got (joined b t)) = (c ≡ b) × Keeps end (before_end B) (k + 1) b names table m t
 MeetsFurther end B k names table (Ok (Joined c m)) (refused n p) = ⊥
-MeetsFurther end B k names table (Err f) (got x) = ⊥
-MeetsFurther end B k names table (Err f) (refused n p) = (f.number ≡ n) × (f.at ≡ p)
+MeetsFurther end B k names table (Err f) x = Refuses f x
 
 -- The code where a group of k content tokens joined by the connector ends.
 abbrev pub closed_table : (k joint n : ℕ) → List ℕ → List ℕ

@@ -8,6 +8,8 @@ use Rattle.rules.specs.Reading.{Reading, refused, got, and_then}
 use Rattle.rules.specs.Walk.{Group}
 use Rattle.rules.specs.TypeFile.{Place, Tokens, Further, closed, joined, occurrence, name_token, data_token, token, is_connector, members_of, join_tokens, further, members, group}
 use Rattle.text.specs.declared.Fault.{Fault}
+use Rattle.text.specs.Refusal.{fault_at}
+use Rattle.text.specs.declared.Refusal.TheVariants.{Malformed, LeftOut}
 use Rattle.text.specs.Words.{byte_is_in}
 use Rattle.basic_laws.specs.Truth.{and_left, and_right, bool_cases}
 use Rattle.model_sets.specs.Sets.{size}
@@ -20,8 +22,8 @@ use Rattle.connectors.specs.declared.Model.{Model}
 use Rattle.connectors.specs.Kept.{Begun, begun, Ready, Tabled, spelt, Joins, Keeps, join_model, join_table}
 use Rattle.connectors.specs.Grown.{ready_more, tabled_less, tabled_put, grouped, gone_on, keeps_on, keeps_less, last_place}
 use Rattle.connectors.specs.Joined.{join_kept}
-use Rattle.content_tokens.specs.Meets.{Meets}
-use Rattle.content_tokens.specs.Readings.{read_got, refused_is, got_meets, refused_meets}
+use Rattle.content_tokens.specs.Meets.{Refuses, Meets}
+use Rattle.content_tokens.specs.Readings.{read_got, refused_is, got_meets, refuses, refuses_on}
 use Rattle.group_reader.specs.declared.Next.{Next}
 use Rattle.group_reader.specs.declared.Next.TheVariants.{Closed, Joined}
 use Rattle.group_reader.specs.Further.{before_end, MeetsFurther, closed_table, closed_code}
@@ -50,18 +52,11 @@ module _ (end : ℕ) (B : Begun) (k : ℕ) (names table : List ℕ) where
   joined_got joint m (got (closed t)) h = absurd h
   joined_got joint m (got (joined b t)) h = (t, ap (λ (d : ℕ). got (joined d t)) (sym h.0), subst (λ (d : ℕ). Keeps end (before_end B) (k + 1) d names table m t) (sym h.0) h.1)
 
-  pub unfit_is : (f : Fault) (x : Reading Further) → MeetsFurther end B k names table (Err f) x → x ≡ refused f.number f.at
-  unfit_is f (refused n p) h = cc (h.0, h.1)
-  unfit_is f (got x) h = absurd h
+  closed_meets : (m : Model) (x : Reading Further) (t : Tokens) → x ≡ got (closed t) → Keeps end B 1 0 names table m t → MeetsFurther end B k names table (Ok (Closed m)) x
+  closed_meets m x t q h = rw q h
 
-  pub closed_meets : (r : Result Next Fault) (m : Model) (x : Reading Further) (t : Tokens) → r ≡ Ok (Closed m) → x ≡ got (closed t) → Keeps end B 1 0 names table m t → MeetsFurther end B k names table r x
-  closed_meets r m x t p q h = rw (p, q) h
-
-  pub joined_meets : (r : Result Next Fault) (b : ℕ) (m : Model) (x : Reading Further) (t : Tokens) → r ≡ Ok (Joined b m) → x ≡ got (joined b t) → Keeps end (before_end B) (k + 1) b names table m t → MeetsFurther end B k names table r x
-  joined_meets r b m x t p q h = rw (p, q) (refl, h)
-
-  pub unfit_meets : (r : Result Next Fault) (f : Fault) (x : Reading Further) → r ≡ Err f → x ≡ refused f.number f.at → MeetsFurther end B k names table r x
-  unfit_meets r f x p q = rw (p, q) (refl, refl)
+  joined_meets : (b : ℕ) (m : Model) (x : Reading Further) (t : Tokens) → x ≡ got (joined b t) → Keeps end (before_end B) (k + 1) b names table m t → MeetsFurther end B k names table (Ok (Joined b m)) x
+  joined_meets b m x t q h = rw q (refl, h)
 
 -- A content token is read.
 
@@ -149,12 +144,12 @@ group_some long (suc levels) s at i ps n h I =
     rw (e, I)
 
 -- A group whose first token was read.
-pub group_begun : (long : ℕ) (levels : ℕ) (s : List ℕ) (at i : ℕ) (ps : List Place) (n lo : ℕ) (T : List ℕ) (code : ℕ) (names table : List ℕ) (r : Result Model Fault) (m : Model)
-    → Meets (length s) (begun lo T code (4 * n + 3)) names table r (token long (group long (levels - 1) s) s i (leb GRPGTCNT n) ps n) → r ≡ Ok m → (levels ≡ 0 → ⊥) → i ≡ separators_end s (at + 1)
+pub group_begun : (long : ℕ) (levels : ℕ) (s : List ℕ) (at i : ℕ) (ps : List Place) (n lo : ℕ) (T : List ℕ) (code : ℕ) (names table : List ℕ) (m : Model)
+    → Meets (length s) (begun lo T code (4 * n + 3)) names table (Ok m) (token long (group long (levels - 1) s) s i (leb GRPGTCNT n) ps n) → (levels ≡ 0 → ⊥) → i ≡ separators_end s (at + 1)
     → (t : Tokens) × Keeps (length s) (begun lo T code (4 * n + 2 + 1)) 1 0 names table m t × (group long levels s at ps n ≡ members long (group long (levels - 1) s) s GRPCNT 1 0 t)
-group_begun long levels s at i ps n lo T code names table r m M e h I =
+group_begun long levels s at i ps n lo T code names table m M h I =
     let x : Reading Tokens = token long (group long (levels - 1) s) s i (leb GRPGTCNT n) ps n in
-    let w = read_got (length s) _ names table m x (rw e at M) in
+    let w = read_got (length s) _ names table m x M in
     (w.0, keeps_less (length s) lo T code (4 * n + 3) (4 * n + 2 + 1) 1 0 names table m w.0 (omega arith) w.2, group_some long levels s at i ps n h I ∙ ap (λ (x : Reading Tokens). and_then x (members long (group long (levels - 1) s) s GRPCNT 1 0)) w.1)
 
 -- The end of a group: the code of an "&" group says how many members it has.
@@ -182,7 +177,7 @@ module _ (long : ℕ) (inner : ℕ → List Place → ℕ → Reading Tokens) (s
   pub next_closed : (table' : List ℕ) (e : ℕ) → b ≡ GRPC → table' ≡ closed_table k joint m.code table → e ≡ closed_code k joint m.code
       → MeetsFurther (length s) (begun lo T n d) k names table' (Ok (Closed (gone_on m (i + 1) m.part e m.repeated))) (further long inner s k joint t)
   next_closed table' e p f g =
-      closed_meets _ (begun lo T n d) k names table' _ _ _ _ refl (further_closed long inner s k joint t i b here B p)
+      closed_meets _ (begun lo T n d) k names table' _ _ _ (further_closed long inner s k joint t i b here B p)
       (keeps_on _ lo T n (d + 1) k joint names table table' m t K d t.group (i + 1) (i + 1) m.part e _ _ refl (omega (arith, byte_is_in s i GRPC (sym B ∙ p) (omega arith))) K.part K.repeated_at
       (λ ready.
       closed_tabled lo T n d k joint t.group t.tokens m.code e table table' K.joins (last_place _ lo T n (d + 1) k joint names table table' m t K) K.tokens_in_lem ready f g
@@ -190,33 +185,31 @@ module _ (long : ℕ) (inner : ℕ → List Place → ℕ → Reading Tokens) (s
       K.numbered refl)
 
   module _ (p : b ≡ GRPC → ⊥) where
-    pub next_unfit : b ≡ PERO → MeetsFurther (length s) (begun lo T n d) k names table (Err (record { number = 5; at = i })) (further long inner s k joint t)
-    next_unfit q = unfit_meets (length s) (begun lo T n d) k names table _ _ _ refl (further_unfit long inner s k joint t i b here B p q)
+    pub next_unfit : {f : Fault} → f ≡ fault_at LeftOut i → b ≡ PERO → Refuses f (further long inner s k joint t)
+    next_unfit e q = refuses _ e (further_unfit long inner s k joint t i b here B p q)
 
     module _ (q : b ≡ PERO → ⊥) (y : Bool) (Y : y ≡ (is_connector b && (eqb joint 0 || eqb joint b))) where
-      pub next_other : y ≡ false → MeetsFurther (length s) (begun lo T n d) k names table (Err (record { number = 4; at = i })) (further long inner s k joint t)
-      next_other r = unfit_meets (length s) (begun lo T n d) k names table _ _ _ refl (further_other long inner s k joint t i b here B p q (sym Y ∙ r))
+      pub next_other : {f : Fault} → f ≡ fault_at Malformed i → y ≡ false → Refuses f (further long inner s k joint t)
+      next_other e r = refuses _ e (further_other long inner s k joint t i b here B p q (sym Y ∙ r))
 
       module _ (r : y ≡ true) (j : ℕ) (full : Bool) (J : j ≡ separators_end s (i + 1)) (F : full ≡ (leb GRPCNT k || leb GRPGTCNT m.tokens)) (names' table' : List ℕ) where
         on : further long inner s k joint t ≡ and_then (token long inner s j full (places_of names m.places) m.tokens) (joins k b i t)
         on = rw (J, F, K.names_hold, K.tokens) (further_on long inner s k joint t i b here B p q (sym Y ∙ r))
 
-        module _ (a : Result Model Fault) (M : Meets (length s) (begun (m.places + 1) table m.code (4 * m.tokens + 3)) names' table' a (token long inner s j full (places_of names m.places) m.tokens)) where
-          pub next_refused : (f : Fault) (r : Result Next Fault) → a ≡ Err f → r ≡ Err f → MeetsFurther (length s) (begun lo T n d) k names' table' r (further long inner s k joint t)
-          next_refused f r e h =
-              let x : Reading Tokens = token long inner s j full (places_of names m.places) m.tokens in
-              let w = refused_is (length s) (begun (m.places + 1) table m.code (4 * m.tokens + 3)) names' table' f x (rw e at M) in
-              unfit_meets (length s) (begun lo T n d) k names' table' r f _ h (on ∙ ap (λ (x : Reading Tokens). and_then x (joins k b i t)) w)
+        pub next_refused : (f : Fault) (r : Result Next Fault) → Refuses f (token long inner s j full (places_of names m.places) m.tokens) → r ≡ Err f
+            → MeetsFurther (length s) (begun lo T n d) k names' table' r (further long inner s k joint t)
+        next_refused f r M h = rw h (refuses_on f (token long inner s j full (places_of names m.places) m.tokens) (joins k b i t) (further long inner s k joint t) M on)
 
-          pub next_joined : (u v : Model) (table'' : List ℕ) → a ≡ Ok u → v ≡ join_model b i m u → table'' ≡ join_table b lo m u table' → MeetsFurther (length s) (begun lo T n d) k names' table'' (Ok (Joined b v)) (further long inner s k joint t)
-          next_joined u v table'' e f h =
-              let x : Reading Tokens = token long inner s j full (places_of names m.places) m.tokens in
-              let w = read_got (length s) _ names' table' u x (rw e at M) in
-              let got_it : further long inner s k joint t ≡ joins k b i t w.0 = on ∙ ap (λ (x : Reading Tokens). and_then x (joins k b i t)) w.1 in
-              joined_meets _ (begun lo T n d) k names' table'' _ b v (further long inner s k joint t) (join_tokens k b i t w.0) refl got_it
-              (rw (f, h)
-              (join_kept _ lo T n (d + 1) k joint names table names' table' m u t w.0 K w.2 (further_room long inner s k joint t b (join_tokens k b i t w.0) got_it) b i
-              (and_left (is_connector b) _ (sym Y ∙ r)) (and_right (is_connector b) _ (sym Y ∙ r))))
+        pub next_joined : (u v : Model) (table'' : List ℕ) → Meets (length s) (begun (m.places + 1) table m.code (4 * m.tokens + 3)) names' table' (Ok u) (token long inner s j full (places_of names m.places) m.tokens)
+            → v ≡ join_model b i m u → table'' ≡ join_table b lo m u table' → MeetsFurther (length s) (begun lo T n d) k names' table'' (Ok (Joined b v)) (further long inner s k joint t)
+        next_joined u v table'' M f h =
+            let x : Reading Tokens = token long inner s j full (places_of names m.places) m.tokens in
+            let w = read_got (length s) _ names' table' u x M in
+            let got_it : further long inner s k joint t ≡ joins k b i t w.0 = on ∙ ap (λ (x : Reading Tokens). and_then x (joins k b i t)) w.1 in
+            joined_meets _ (begun lo T n d) k names' table'' b v (further long inner s k joint t) (join_tokens k b i t w.0) got_it
+            (rw (f, h)
+            (join_kept _ lo T n (d + 1) k joint names table names' table' m u t w.0 K w.2 (further_room long inner s k joint t b (join_tokens k b i t w.0) got_it) b i
+            (and_left (is_connector b) _ (sym Y ∙ r)) (and_right (is_connector b) _ (sym Y ∙ r))))
 
 -- The members of a group so far, from the first one on.
 
@@ -234,25 +227,28 @@ module _ (long : ℕ) (inner : ℕ → List Place → ℕ → Reading Tokens) (s
       → (T : List ℕ) (n d : ℕ) (t₀ : Tokens) → Keeps (length s) (begun lo T n (d + 1)) 1 0 names₀ table₀ m₀ t₀ → (m.at ≤ length s) × (m.places ≤ m.tokens) × (m.tokens ≤ GRPGTCNT)
   so_in names table m k joint S T n d t₀ K₀ = omega (arith, (S.read T n d t₀ K₀).1)
 
-  module _ (names table : List ℕ) (m : Model) (k joint : ℕ) (S : So long inner s lo names₀ table₀ m₀ names table m k joint) (names' table' : List ℕ) (r : Result Next Fault)
-      (N : (T : List ℕ) (n d : ℕ) (t : Tokens) → Keeps (length s) (begun lo T n (d + 1)) k joint names table m t → MeetsFurther (length s) (begun lo T n d) k names' table' r (further long inner s k joint t))
-      (T : List ℕ) (n d : ℕ) (t₀ : Tokens) (K₀ : Keeps (length s) (begun lo T n (d + 1)) 1 0 names₀ table₀ m₀ t₀) where
-    pub so_closed : (y : Reading Tokens) (u : Model) → y ≡ members long inner s GRPCNT 1 0 t₀ → r ≡ Ok (Closed u) → Meets (length s) (begun lo T n d) names' table' (Ok u) y
-    so_closed y u q e =
-        let w = S.read T n d t₀ K₀ in
-        let x = closed_got _ (begun lo T n d) k names' table' u _ (rw e at (N T n d w.0 w.1)) in
-        got_meets _ (begun lo T n d) names' table' _ u _ _ refl (q ∙ w.2 ∙ members_closed long inner s k joint w.0 S.few x.0 x.1) x.2
+  module _ (names table : List ℕ) (m : Model) (k joint : ℕ) (S : So long inner s lo names₀ table₀ m₀ names table m k joint) (names' table' : List ℕ) where
+    -- What follows them stands for such an answer.
+    abbrev Follows : Result Next Fault → Type 0
+    Follows r = (T : List ℕ) (n d : ℕ) (t : Tokens) → Keeps (length s) (begun lo T n (d + 1)) k joint names table m t → MeetsFurther (length s) (begun lo T n d) k names' table' r (further long inner s k joint t)
 
-    pub so_unfit : (y : Reading Tokens) (f : Fault) → y ≡ members long inner s GRPCNT 1 0 t₀ → r ≡ Err f → Meets (length s) (begun lo T n d) names' table' (Err f) y
-    so_unfit y f q e =
-        let w = S.read T n d t₀ K₀ in
-        refused_meets (length s) (begun lo T n d) names' table' _ f.number f.at _ refl
-        (q ∙ w.2 ∙ members_refused long inner s k joint w.0 S.few _ _ (unfit_is (length s) (begun lo T n d) k names' table' f _ (rw e at (N T n d w.0 w.1))))
+    module _ (T : List ℕ) (n d : ℕ) (t₀ : Tokens) (K₀ : Keeps (length s) (begun lo T n (d + 1)) 1 0 names₀ table₀ m₀ t₀) (y : Reading Tokens) (q : y ≡ members long inner s GRPCNT 1 0 t₀) where
+      pub so_closed : (u : Model) → Follows (Ok (Closed u)) → Meets (length s) (begun lo T n d) names' table' (Ok u) y
+      so_closed u N =
+          let w = S.read T n d t₀ K₀ in
+          let x = closed_got _ (begun lo T n d) k names' table' u _ (N T n d w.0 w.1) in
+          got_meets _ (begun lo T n d) names' table' u _ _ (q ∙ w.2 ∙ members_closed long inner s k joint w.0 S.few x.0 x.1) x.2
 
-    pub so_joined : (b : ℕ) (u : Model) → r ≡ Ok (Joined b u) → (k < GRPCNT) × So long inner s lo names₀ table₀ m₀ names' table' u (k + 1) b
-    so_joined b u e =
+      pub so_unfit : (f : Fault) → Follows (Err f) → Refuses f y
+      so_unfit f N =
+          let w = S.read T n d t₀ K₀ in
+          refuses y refl (q ∙ w.2 ∙ members_refused long inner s k joint w.0 S.few _ _ (refused_is f _ (N T n d w.0 w.1)))
+
+    pub so_joined : (T : List ℕ) (n d : ℕ) (t₀ : Tokens) → Keeps (length s) (begun lo T n (d + 1)) 1 0 names₀ table₀ m₀ t₀ → (b : ℕ) (u : Model) → Follows (Ok (Joined b u))
+        → (k < GRPCNT) × So long inner s lo names₀ table₀ m₀ names' table' u (k + 1) b
+    so_joined T n d t₀ K₀ b u N =
         let w = S.read T n d t₀ K₀ in
-        let x = joined_got _ (begun lo T n d) k names' table' b u _ (rw e at (N T n d w.0 w.1)) in
+        let x = joined_got _ (begun lo T n d) k names' table' b u _ (N T n d w.0 w.1) in
         let h : k < GRPCNT = further_room long inner s k joint w.0 b x.0 x.1 in
         (h, record { few = omega arith; read = next })
       where
@@ -260,5 +256,5 @@ module _ (long : ℕ) (inner : ℕ → List Place → ℕ → Reading Tokens) (s
             → (t : Tokens) × Keeps (length s) (begun lo T n (d + 1)) (k + 1) b names' table' u t × (members long inner s GRPCNT 1 0 t₀ ≡ members long inner s ((GRPCNT + 1) - (k + 1)) (k + 1) b t)
         next T n d t₀ K₀ =
             let w = S.read T n d t₀ K₀ in
-            let x = joined_got _ (begun lo T n d) k names' table' b u _ (rw e at (N T n d w.0 w.1)) in
+            let x = joined_got _ (begun lo T n d) k names' table' b u _ (N T n d w.0 w.1) in
             (x.0, x.2, w.2 ∙ members_joined long inner s k joint w.0 S.few b x.0 x.1)

@@ -2,7 +2,7 @@
 use Rattle.std.proofs.Common.{◌≡◌, ◌+◌, true, false, refl, sym, ap, ◌∙◌, arith}
 use Rattle.rules.specs.Bytes.{byte_at, letter}
 use Rattle.text.specs.Words.{name_end_from, name_end_le}
-use Rattle.content_tokens.specs.Readings.{got_meets, refused_meets}
+use Rattle.content_tokens.specs.Readings.{got_meets, refuses}
 use Rattle.content_tokens.specs.Tokens.{data_word, data_full, data_got, data_none, new_data}
 use Rattle.content_tokens.proofs.data_token.Goals as goal
 
@@ -20,14 +20,14 @@ pub returns-then-not-is_word : goal.returns-then-not-is_word
 returns-then-not-is_word c =
     let x = c.args in
     let is_one : letter (byte_at x.s.now (x.at + 1)) ≡ true = ap letter (sym c.byte-b.ensures) ∙ sym c.is_letter.ensures ∙ c.if-is_letter.true in
-    refused_meets _ _ _ _ _ 4 _ _ c.wrong_data.ensures
+    refuses _ c.wrong_data.ensures
     (data_word x.s.now x.at x.full _ x.tokens is_one _ c.name_end-e.ensures _ c.is_word.ensures c.if-not-is_word.true)
 
 pub returns-then-full : goal.returns-then-full
 returns-then-full c =
     let x = c.args in
     let is_one : letter (byte_at x.s.now (x.at + 1)) ≡ true = ap letter (sym c.byte-b.ensures) ∙ sym c.is_letter.ensures ∙ c.if-is_letter.true in
-    refused_meets _ _ _ _ _ 6 x.at _ c.refusal.ensures
+    refuses _ c.at.ensures
     (data_full x.s.now x.at x.full _ x.tokens is_one _ c.name_end-e.ensures _ c.is_word.ensures c.if-not-is_word.false c.if-full.true)
 
 pub put_name-requires : goal.put_name-requires
@@ -53,7 +53,7 @@ returns-then-is_letter c =
     let x = c.args in
     let e = c.name_end-e in
     let is_one : letter (byte_at x.s.now (x.at + 1)) ≡ true = ap letter (sym c.byte-b.ensures) ∙ sym c.is_letter.ensures ∙ c.if-is_letter.true in
-    got_meets _ _ _ _ _ _ _ _ refl
+    got_meets _ _ _ _ _ _ _
     (data_got x.s.now x.at x.full _ x.tokens is_one e.result e.ensures _ c.is_word.ensures c.if-not-is_word.false c.if-full.false)
     (new_data _ x.at e.result 0 x.places x.tokens x.code x.table.now x.names.now _
     (omega (arith, name_end_le x.s.now (x.at + 1) (omega arith), e.ensures)) c.requires.places_le_tokens.0 (c.requires.places_le_tokens.1 c.if-full.false) c.put_name.ensures.0 _ c.put_place-part.ensures.0 _ _ _ _ _ _ _ _
@@ -63,4 +63,4 @@ pub returns : goal.returns
 returns c =
     let x = c.args in
     let is_none : letter (byte_at x.s.now (x.at + 1)) ≡ false = ap letter (sym c.byte-b.ensures) ∙ sym c.is_letter.ensures ∙ c.if-is_letter.false in
-    refused_meets _ _ _ _ _ 4 (x.at + 1) _ c.refusal-2.ensures (data_none x.s.now x.at x.full _ x.tokens is_none)
+    refuses _ c.at-2.ensures (data_none x.s.now x.at x.full _ x.tokens is_none)

@@ -1,7 +1,7 @@
 -- `name_token` meets its contract: the name's size, then the room for a token; then the new place with its indicator.
 use Rattle.std.proofs.Common.{refl, arith}
 use Rattle.text.specs.Words.{name_end_from, name_end_le}
-use Rattle.content_tokens.specs.Readings.{got_meets, refused_meets}
+use Rattle.content_tokens.specs.Readings.{got_meets, refuses}
 use Rattle.content_tokens.specs.Tokens.{name_long, name_full, name_got, new_place_lem}
 use Rattle.content_tokens.proofs.name_token.Goals as goal
 
@@ -13,12 +13,12 @@ overflow_sub-n c =
 pub returns-then-long-n : goal.returns-then-long-n
 returns-then-long-n c =
     let x = c.args in
-    refused_meets _ _ _ _ _ 3 x.at _ c.refusal.ensures (name_long x.long x.s.now x.at _ x.full _ x.tokens c.name_end-e.ensures c.if-long-n.true)
+    refuses _ c.at.ensures (name_long x.long x.s.now x.at _ x.full _ x.tokens c.name_end-e.ensures c.if-long-n.true)
 
 pub returns-then-full : goal.returns-then-full
 returns-then-full c =
     let x = c.args in
-    refused_meets _ _ _ _ _ 6 x.at _ c.refusal-then-full.ensures (name_full x.long x.s.now x.at _ x.full _ x.tokens c.name_end-e.ensures c.if-long-n.false c.if-full.true)
+    refuses _ c.at-then-full.ensures (name_full x.long x.s.now x.at _ x.full _ x.tokens c.name_end-e.ensures c.if-long-n.false c.if-full.true)
 
 pub put_name-requires : goal.put_name-requires
 put_name-requires c =
@@ -49,7 +49,7 @@ pub returns : goal.returns
 returns c =
     let x = c.args in
     let e = c.name_end-e in
-    got_meets _ _ _ _ _ _ _ _ refl
+    got_meets _ _ _ _ _ _ _
     (name_got x.long x.s.now x.at e.result x.full _ x.tokens e.ensures c.if-long-n.false c.if-full.false)
     (c.with_occurrence.ensures _ _ _ _ _
     (new_place_lem _ x.at e.result _ x.places x.tokens x.code x.table.now x.names.now _

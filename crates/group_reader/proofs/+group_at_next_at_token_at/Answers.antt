@@ -7,7 +7,7 @@ use Rattle.rules.specs.Bytes.{GRPCNT, GRPGTCNT, GRPO, RNI}
 use Rattle.model_names.specs.Places.{places_of}
 use Rattle.text.specs.Words.{byte_is_in, or_passed, separators_end_le}
 use Rattle.connectors.specs.Grown.{keeps_less}
-use Rattle.content_tokens.specs.Readings.{refused_meets, read_in_lem, refused_then, read_then}
+use Rattle.content_tokens.specs.Readings.{refuses, refuses_on, read_in_lem, read_then}
 use Rattle.group_reader.specs.Groups.{or_other, connector_in, token_name_lem, token_data, token_full, token_group_lem, token_unfit, token_other, group_none, group_some, group_begun, so_in, so_closed, so_unfit, so_joined, so_first, next_closed, next_unfit, next_other, next_refused, next_joined}
 use Rattle.group_reader.proofs.+group_at_next_at_token_at.Goals as goal
 use Rattle.group_reader.proofs.+group_at_next_at_token_at.Goals.{token_at-then-b-eq91-via-then-b-eq91, token_at-then-b-eq91-via-else-b-eq91+then-b-eq37}
@@ -17,7 +17,7 @@ use Rattle.group_reader.proofs.+group_at_next_at_token_at.Goals.{token_at-then-b
 pub group_at-returns-then-levels-eq0 : goal.group_at-returns-then-levels-eq0
 group_at-returns-then-levels-eq0 t c =
     let x = c.args in
-    refused_meets _ _ _ _ _ 6 x.at _ c.refusal.ensures (group_none x.long x.levels x.s.now x.at _ x.tokens c.if-levels-eq0.true)
+    refuses _ c.at.ensures (group_none x.long x.levels x.s.now x.at _ x.tokens c.if-levels-eq0.true)
 
 pub group_at-token_at-r-requires : goal.group_at-token_at-r-requires
 group_at-token_at-r-requires t c =
@@ -150,7 +150,7 @@ token_at-returns-then-b-eq35 t c =
 pub token_at-returns-then-full : goal.token_at-returns-then-full
 token_at-returns-then-full t c =
     let x = c.args in
-    refused_meets _ _ _ _ _ 6 x.at _ c.refusal.ensures
+    refuses _ c.at.ensures
     (token_full x.long (group x.long x.levels x.s.now) x.s.now x.at c.byte-b.result x.full c.is_letter.result _ x.tokens c.byte-b.ensures c.is_letter.ensures c.if-is_letter.false c.if-b-eq35.false c.if-b-eq40.true c.if-full.true)
 
 pub token_at-group_at-r-requires : goal.token_at-group_at-r-requires
@@ -182,7 +182,7 @@ token_at-returns-then-b-eq40 t c =
 pub token_at-returns-then-b-eq91 : goal.token_at-returns-then-b-eq91
 token_at-returns-then-b-eq91 t c =
     let x = c.args in
-    refused_meets _ _ _ _ _ 5 x.at _ c.refusal-then-b-eq91.ensures
+    refuses _ c.at-then-b-eq91.ensures
     (token_unfit x.long (group x.long x.levels x.s.now) x.s.now x.at c.byte-b.result x.full c.is_letter.result _ x.tokens c.byte-b.ensures c.is_letter.ensures c.if-is_letter.false c.if-b-eq35.false c.if-b-eq40.false
     (elim c.then-b-eq91.branch [
       | token_at-then-b-eq91-via-then-b-eq91 w ↦ or_left _ (eq-eqb _ _ w.if-b-eq91.true)
@@ -192,6 +192,6 @@ token_at-returns-then-b-eq91 t c =
 pub token_at-returns : goal.token_at-returns
 token_at-returns t c =
     let x = c.args in
-    refused_meets _ _ _ _ _ 4 x.at _ c.refusal-2.ensures
+    refuses _ c.at-2.ensures
     (token_other x.long (group x.long x.levels x.s.now) x.s.now x.at c.byte-b.result x.full c.is_letter.result _ x.tokens c.byte-b.ensures c.is_letter.ensures c.if-is_letter.false c.if-b-eq35.false c.if-b-eq40.false
     (sym (or_passed _ _ _ (ne_eqb _ _ c.if-b-eq91.false) (sym (ne_eqb _ _ c.if-b-eq37.false)))))
