@@ -9,7 +9,7 @@ loop-n-init c = (omega arith, c.startable-c.ensures.result_le_element_limit, rec
 pub returns-then-p-ne0-clause-by_index : goal.returns-then-p-ne0-clause-by_index
 returns-then-p-ne0-clause-by_index c =
     let a = c.args in
-    let looks : Looks a.rows.now a.places.now a.facts.now a.e.0 a.q.0 a.x.0 c.loop-n.c.0 c.loop-n.n = c.loop-n.invariant.2.on _ _ (looks_start _ _ _ _ _ _ _ c.startable-c.ensures.by_index) in
+    let looks : Looks a.t.rows.now a.t.places.now a.t.facts.now a.e.0 a.q.0 a.x.0 c.loop-n.c.0 c.loop-n.n = c.loop-n.invariant.2.on _ _ (looks_start _ _ _ _ _ _ _ c.startable-c.ensures.by_index) in
     looks_found _ _ _ _ _ _ _ _ looks c.loop-n.invariant.0 c.loop-n-test.true c.if-c-ne0.true _ c.fitting_first-p.ensures.by_index (λ z. omega (arith, c.if-p-ne0.true))
 
 pub loop-n-preserved : goal.loop-n-preserved
@@ -26,11 +26,11 @@ loop-n-preserved c = (
 pub returns-else-c-ne0-clause-by_index : goal.returns-else-c-ne0-clause-by_index
 returns-else-c-ne0-clause-by_index c =
     let a = c.args in
-    let looks : Looks a.rows.now a.places.now a.facts.now a.e.0 a.q.0 a.x.0 c.loop-n.c.0 c.loop-n.n = c.loop-n.invariant.2.on _ _ (looks_start _ _ _ _ _ _ _ c.startable-c.ensures.by_index) in
+    let looks : Looks a.t.rows.now a.t.places.now a.t.facts.now a.e.0 a.q.0 a.x.0 c.loop-n.c.0 c.loop-n.n = c.loop-n.invariant.2.on _ _ (looks_start _ _ _ _ _ _ _ c.startable-c.ensures.by_index) in
     looks_none _ _ _ _ _ _ _ _ looks c.loop-n.invariant.0 c.loop-n-test.true c.if-c-ne0.false
 
 pub returns-after-loop-n-clause-by_index : goal.returns-after-loop-n-clause-by_index
 returns-after-loop-n-clause-by_index c =
     let a = c.args in
-    let looks : Looks a.rows.now a.places.now a.facts.now a.e.0 a.q.0 a.x.0 c.loop-n.c.0 c.loop-n.n = c.loop-n.invariant.2.on _ _ (looks_start _ _ _ _ _ _ _ c.startable-c.ensures.by_index) in
+    let looks : Looks a.t.rows.now a.t.places.now a.t.facts.now a.e.0 a.q.0 a.x.0 c.loop-n.c.0 c.loop-n.n = c.loop-n.invariant.2.on _ _ (looks_start _ _ _ _ _ _ _ c.startable-c.ensures.by_index) in
     looks_over _ _ _ _ _ _ _ _ looks c.loop-n.invariant.0 c.loop-n-test.false
