@@ -1,5 +1,5 @@
 -- The loop that infers ends: what the tables' answers say, each turn, and each way out.
-use Rattle.std.specs.Prelude.{ℕ, zero, suc, ◌+◌, ◌≤◌, ◌<◌, ◌≡◌, refl, Bool, true, false, List, [], ◌∷◌, ◌++◌, length, get_or}
+use Rattle.std.specs.Prelude.{ℕ, zero, suc, ◌+◌, ◌≤◌, ◌<◌, ◌≡◌, refl, Bool, true, false, List, [], ◌∷◌, ◌++◌, length, get_or, Ok, Err}
 use Rattle.std.proofs.Common.{ap, sym, ◌∙◌, subst, append_assoc, append-nil, arith, length-append}
 use Rattle.rules.specs.Reading.{Reading, refused, got, and_then}
 use Rattle.rules.specs.TypeFile.{Element}
@@ -8,6 +8,8 @@ use Rattle.rules.specs.Decisions.{start}
 use Rattle.rules.specs.Events.{Event, end_inferred}
 use Rattle.rules.specs.Settling.{State, is_complete, end_left_out}
 use Rattle.rules.specs.Settling as rules
+use Rattle.text.specs.declared.Refusal.{Refusal}
+use Rattle.text.specs.declared.Refusal.TheVariants.{Incomplete, EndMissing}
 use Rattle.rules_laws.specs.BeforeStarts.{Plain, plain_none, plain_then, plain_end_inferred}
 use Rattle.document_laws.specs.Decide.{is_complete_in, decided}
 use Rattle.document_laws.specs.Moves.{state}
@@ -18,9 +20,8 @@ use Rattle.open_elements.specs.declared.Entry.{Entry}
 use Rattle.open_elements.specs.declared.OpenElements.{OpenElements}
 use Rattle.open_elements.specs.declared.Outcome.{Outcome}
 use Rattle.open_elements.specs.Stands.{none, ended, Ranged, Kept, AllKept, Stands}
-use Rattle.open_elements.specs.Becomes.{StandsWith, becomes_refused, becomes_got}
 use Rattle.open_elements.specs.Methods.{stands_declared, stands_around, stands_alone, ranged_ended}
-use Rattle.left_out_ends.specs.Until.{infer_ends, due_of, Judges, Brings, Until}
+use Rattle.left_out_ends.specs.Until.{infer_ends, Judges, Brings, UntilGot, UntilRefused}
 use Rattle.left_out_ends.specs.Ends.{inferred_from, Numbered, left_incomplete, left_required, left_out, ends_here, ends_none, ends_past}
 
 -- What the open elements say of the state that they stand for
@@ -45,34 +46,22 @@ abbrev pub SaysOmitted : (facts : List ℕ) (e : ℕ) → Bool → Type 0
 SaysOmitted facts e b = (s : List ℕ) (es : List Element) (raised : ℕ → Bool) → Facts s es raised facts → Declares es (start e) → b ≡ end_o es e
 
 module _ (facts : List ℕ) (o : OpenElements) where
-  pub judges_incomplete : o.complete ≡ false → Judges facts o 13
-  judges_incomplete e =
-      record {
-        small = omega arith;
-        sure = λ z. absurd (omega arith);
-        due = λ s es raised f M begun z h l at. left_incomplete s es (decided s es) at z.current (stands_complete h s ∙ e);
-      }
+  pub judges_incomplete : o.complete ≡ false → Judges facts o (Err Incomplete)
+  judges_incomplete e = (omega arith, λ s es raised f M begun z h l at. left_incomplete s es (decided s es) at z.current (stands_complete h s ∙ e))
 
   module _ {d : Bool} (e : o.complete ≡ true) (m : SaysOmitted facts o.element.0 d) where
     omitted : (s : List ℕ) (es : List Element) (raised : ℕ → Bool) → Facts s es raised facts → {M begun : List ℕ} {z : State} → Stands es M begun o z → 1 ≤ o.count → end_o es z.current.element ≡ d
     omitted s es raised f h l = ap (end_o es) h.current.entered.number ∙ sym (m s es raised f (stands_declared h l))
 
-    pub judges_required : d ≡ false → Judges facts o 14
-    judges_required g =
-        record {
-          small = omega arith;
-          sure = λ z. absurd (omega arith);
-          due = λ s es raised f M begun z h l at. left_required s es (decided s es) at z.current (stands_complete h s ∙ e) (omitted s es raised f h l ∙ g);
-        }
+    pub judges_required : d ≡ false → Judges facts o (Err EndMissing)
+    judges_required g = (omega arith, λ s es raised f M begun z h l at. left_required s es (decided s es) at z.current (stands_complete h s ∙ e) (omitted s es raised f h l ∙ g))
 
-    pub judges_out : d ≡ true → Judges facts o 0
-    judges_out g =
-        record {
-          small = omega arith;
-          sure = λ z. e;
-          due = λ s es raised f M begun z h l at.
-              left_out s es (decided s es) at z.current (stands_complete h s ∙ e) (omitted s es raised f h l ∙ g) ∙ ap (λ (k : ℕ). got (end_inferred k at)) h.current.entered.number;
-        }
+    pub judges_out : d ≡ true → Judges facts o (Ok tt)
+    judges_out g = (
+      e,
+      λ s es raised f M begun z h l at.
+          left_out s es (decided s es) at z.current (stands_complete h s ∙ e) (omitted s es raised f h l ∙ g) ∙ ap (λ (k : ℕ). got (end_inferred k at)) h.current.entered.number,
+    )
 
 -- The loop
 
@@ -88,10 +77,6 @@ pub record Goes (facts : List ℕ) (x at n : ℕ) (o : OpenElements) (numbers by
   pub same : (s : List ℕ) (es : List Element) (raised : ℕ → Bool) → Facts s es raised facts → (M begun : List ℕ) (z : State) → Stands es M begun o z
       → (y : State) × Stands es M begun q y × (y.events ≡ z.events ++ events) × (inferred_from s es (decided s es) x at z ≡ inferred_from s es (decided s es) x at y)
 
-due_refused : (at n : ℕ) (e : Event) → (n ≡ 0 → ⊥) → due_of at n e ≡ refused n at
-due_refused at zero e h = absurd (h refl)
-due_refused at (suc n) e h = refl
-
 -- One turn: what is around the current element is taken apart, and its end is due.
 from_past : (s : List ℕ) (es : List Element) (x at : ℕ) (y : State) (u : rules.Open) (us : List rules.Open) → y.around ≡ u ∷ us → (y.current.element ≡ x → ⊥) → {due : Reading Event} → end_left_out s es (decided s es) at y.current ≡ due
     → inferred_from s es (decided s es) x at y ≡ and_then due λ e. inferred_from s es (decided s es) x at (state u us (y.events ++ e ∷ []))
@@ -100,8 +85,8 @@ from_past s es x at y u us e n i =
     ∙ ends_past s es (decided s es) x at u us y.current y.events n
     ∙ ap (λ (d : Reading Event). and_then d λ t. inferred_from s es (decided s es) x at (state u us (y.events ++ t ∷ []))) i
 
-abbrev pub left : OpenElements → (events number : ℕ) → Outcome
-left o k number = record { «open» = o; events = k; number = number }
+abbrev pub left : OpenElements → (events : ℕ) → Outcome
+left o k = record { «open» = o; events = k }
 
 module _ {facts : List ℕ} {x at n : ℕ} {o : OpenElements} {numbers bytes : List ℕ} where
   pub goes_start : Ranged o → Goes facts x at n o numbers bytes o n numbers bytes
@@ -117,50 +102,50 @@ module _ {facts : List ℕ} {x at n : ℕ} {o : OpenElements} {numbers bytes : L
       }
 
   module _ {q : OpenElements} {k : ℕ} {numbers' bytes' : List ℕ} (g : Goes facts x at n o numbers bytes q k numbers' bytes') where
-    abbrev brings : (number : ℕ) → number < 20 → Brings n numbers bytes (left q k number) numbers' bytes'
-    brings number h = record { ranged = g.ranged; small = h; events = g.events; puts = g.puts; counted = g.counted; plain = g.plain }
+    abbrev brings : Brings n numbers bytes (left q k) numbers' bytes'
+    brings = record { ranged = g.ranged; events = g.events; puts = g.puts; counted = g.counted; plain = g.plain }
 
-    pub until_here : q.element.0 ≡ x → Until facts x at n o numbers bytes (left q k 0) numbers' bytes'
+    pub until_here : q.element.0 ≡ x → UntilGot facts x at n o numbers bytes (left q k) numbers' bytes'
     until_here e =
         record {
-          brings = brings 0 (omega arith);
+          brings = brings;
           few = g.few;
-          reached = λ z l. e;
+          reached = λ l. e;
           ends = λ s es raised f M begun z st.
               let (y, here, ev, i) = g.same s es raised f M begun z st in
-              becomes_got at (StandsWith es M begun q (z.events ++ g.events)) refl (i ∙ ends_here s es (decided s es) x at y.around y.current y.events (here.current.entered.number ∙ e)) (here, ev);
+              (y, i ∙ ends_here s es (decided s es) x at y.around y.current y.events (here.current.entered.number ∙ e), here, ev);
         }
 
-    pub until_none : q.count ≡ 0 → Until facts x at n o numbers bytes (left q k 0) numbers' bytes'
+    pub until_none : q.count ≡ 0 → UntilGot facts x at n o numbers bytes (left q k) numbers' bytes'
     until_none e =
         record {
-          brings = brings 0 (omega arith);
+          brings = brings;
           few = g.few;
-          reached = λ z l. absurd (omega arith);
+          reached = λ l. absurd (omega arith);
           ends = λ s es raised f M begun z st.
-              let (y, here, ev, i) = g.same s es raised f M begun z st in
-              becomes_got at (StandsWith es M begun q (z.events ++ g.events)) refl
-              (i ∙ subst (λ (os : List rules.Open). infer_ends s es (decided s es) x at os y.current y.events ≡ got (state y.current os y.events)) (sym (stands_alone here e)) (ends_none s es (decided s es) x at y.current y.events))
-              (here, ev);
+              let (y, here, ev, i) = g.same s es raised f M begun z st in (
+                y,
+                i ∙ subst (λ (os : List rules.Open). infer_ends s es (decided s es) x at os y.current y.events ≡ got (state y.current os y.events)) (sym (stands_alone here e)) (ends_none s es (decided s es) x at y.current y.events),
+                here,
+                ev,
+              );
         }
 
-    module _ (l : 1 ≤ q.count) (m : q.element.0 ≡ x → ⊥) {number : ℕ} (j : Judges facts q number) where
-      pub until_refused : (number ≡ 0 → ⊥) → Until facts x at n o numbers bytes (left q k number) numbers' bytes'
-      until_refused some =
+    module _ (l : 1 ≤ q.count) (m : q.element.0 ≡ x → ⊥) where
+      pub until_refused : {r : Refusal} → Judges facts q (Err r) → UntilRefused facts x at n o numbers bytes r numbers' bytes'
+      until_refused (small, says) =
           record {
-            brings = brings number j.small;
-            few = g.few;
-            reached = λ y k. absurd (some y);
+            put = record { small = small; events = g.events; puts = g.puts; plain = g.plain };
+            few = omega (arith, g.few);
             ends = λ s es raised f M begun z st.
                 let (y, here, ev, i) = g.same s es raised f M begun z st in
                 let a = stands_around here l in
-                becomes_refused at (StandsWith es M begun q (z.events ++ g.events)) (omega arith)
-                (i ∙ from_past s es x at y a.parent a.others a.are (λ e. m (sym here.current.entered.number ∙ e)) (j.due s es raised f M begun y here l at ∙ due_refused at number (end_inferred q.element.0 at) some));
+                i ∙ from_past s es x at y a.parent a.others a.are (λ e. m (sym here.current.entered.number ∙ e)) (says s es raised f M begun y here l at);
           }
 
-      pub goes_turn : number ≡ 0 → {next : OpenElements} {m : ℕ} {numbers'' bytes'' : List ℕ} → next ≡ ended q → m ≡ k + 1 → Puts numbers' bytes' k (noted 4 q.element.0 at 0 0 ∷ []) numbers'' bytes''
+      pub goes_turn : {u : Unit {0}} → Judges facts q (Ok u) → {next : OpenElements} {m : ℕ} {numbers'' bytes'' : List ℕ} → next ≡ ended q → m ≡ k + 1 → Puts numbers' bytes' k (noted 4 q.element.0 at 0 0 ∷ []) numbers'' bytes''
           → Goes facts x at n o numbers bytes next m numbers'' bytes''
-      goes_turn nothing {numbers'' = numbers''} {bytes''} e c p =
+      goes_turn (complete, says) {numbers'' = numbers''} {bytes''} e c p =
           let event = end_inferred q.element.0 at in
           let sizes = length-append g.events (event ∷ []) in
           rw e (record {
@@ -176,6 +161,6 @@ module _ {facts : List ℕ} {x at n : ℕ} {o : OpenElements} {numbers bytes : L
                   state a.parent a.others (y.events ++ event ∷ []),
                   a.stands (y.events ++ event ∷ []),
                   ap (λ t. t ++ event ∷ []) ev ∙ append_assoc z.events g.events (event ∷ []),
-                  i ∙ from_past s es x at y a.parent a.others a.are (λ e. m (sym here.current.entered.number ∙ e)) (j.due s es raised f M begun y here l at ∙ ap (λ (k : ℕ). due_of at k event) nothing),
+                  i ∙ from_past s es x at y a.parent a.others a.are (λ e. m (sym here.current.entered.number ∙ e)) (says s es raised f M begun y here l at),
                 );
           })

@@ -11,11 +11,11 @@ loop-o-init c = goes_start c.requires.0
 pub returns-then-e-x : goal.returns-then-e-x
 returns-then-e-x c = until_here c.loop-o.invariant c.if-e-x.true
 
-pub end_fault-f-requires : goal.end_fault-f-requires
-end_fault-f-requires c = c.loop-o.invariant.ranged
+pub end_fault-requires : goal.end_fault-requires
+end_fault-requires c = c.loop-o.invariant.ranged
 
-pub returns-then-f-ne0 : goal.returns-then-f-ne0
-returns-then-f-ne0 c = until_refused c.loop-o.invariant (omega (arith, c.loop-o-test.true)) c.if-e-x.false c.end_fault-f.ensures c.if-f-ne0.true
+pub returns-in_err-end_fault : goal.returns-in_err-end_fault
+returns-in_err-end_fault c = ?
 
 pub put_event-k-requires : goal.put_event-k-requires
 put_event-k-requires c =
@@ -24,7 +24,7 @@ put_event-k-requires c =
     (omega (arith, g.counted, g.few, p.0.few, p.2), omega (arith, g.ranged.element), p.1, omega arith, omega arith)
 
 pub infer_end-o-requires : goal.infer_end-o-requires
-infer_end-o-requires c = (c.loop-o.invariant.ranged, omega (arith, c.loop-o-test.true), c.end_fault-f.ensures.sure c.if-f-ne0.false)
+infer_end-o-requires c = (c.loop-o.invariant.ranged, omega (arith, c.loop-o-test.true), c.in_ok-end_fault.ensures.0)
 
 pub loop-o-smaller : goal.loop-o-smaller
 loop-o-smaller c =
@@ -32,8 +32,8 @@ loop-o-smaller c =
     omega (arith, e, c.loop-o-test.true)
 
 pub loop-o-preserved : goal.loop-o-preserved
-loop-o-preserved c = goes_turn c.loop-o.invariant (omega (arith, c.loop-o-test.true)) c.if-e-x.false c.end_fault-f.ensures c.if-f-ne0.false c.infer_end-o.ensures
-    c.put_event-k.ensures.0 c.put_event-k.ensures.1
+loop-o-preserved c = goes_turn c.loop-o.invariant (omega (arith, c.loop-o-test.true)) c.if-e-x.false c.in_ok-end_fault.ensures c.infer_end-o.ensures
+    c.put_event-k.ensures.0 c.put_event-k.ensures.1.0
 
 pub returns : goal.returns
 returns c = until_none c.loop-o.invariant (omega (arith, c.loop-o-test.false))
