@@ -1,13 +1,14 @@
 // The open elements from token to token: what is taken, opened and ended in them.
 #![tactic(auto)]
 
-ghost use Rattle.std.specs.Prelude.{◌≡◌, true, ◌+◌, ◌-◌, ◌≤◌, ◌<◌};
+ghost use Rattle.std.specs.Prelude.{◌≡◌, true, ◌+◌, ◌-◌, ◌≤◌, ◌<◌, IfSome};
 ghost use Rattle.rules.specs.Settling.{shown, is_open};
 ghost use Rattle.rules.specs.Bytes.{GRPGTCNT, TAGLVL, element_limit};
 ghost use Rattle.layout.specs.Sizes.{RAISE};
+ghost use Rattle.layout.specs.declared.Place.{Place};
+ghost use Rattle.and_groups.specs.Takes.{answer_of};
 ghost use Rattle.open_elements.specs.Stands.{entry, fresh, opening, ended, bare, Ranged, Weighs, Taking, Starting};
 
-use and_groups::FREE;
 use layout::{BEGUN, ElementNo, GRPGTCNT, Place, RAISE, ROWS, TAGLVL};
 
 // An open element, the place that was taken last in it, or 0, and its marks: whether its content is complete there, and
@@ -63,20 +64,19 @@ pub fn place_shown(parent: ElementNo, place: Place) -> Place
 
 // The marks of an element whose model has an "&", where the row has these and the groups around the place answer m (`take` of and_groups): the row's, if no
 // group lacks a member; else the content is not complete, and m is required.
-fn weighed(m: usize, complete: bool, kept: usize) -> Marks
-    ensures { Weighs m complete kept result.complete result.required.0 }
+fn weighed(m: Option<Place>, complete: bool, kept: usize) -> Marks
+    requires { IfSome m (λ (x : Place). x.0 ≤ GRPGTCNT) }
+    ensures { Weighs (answer_of m) complete kept result.complete result.required.0 }
 {
-    if m != FREE {
-        let due = Place(m);
-        return Marks {
+    match m {
+        Some(due) => Marks {
             complete: false,
             required: due,
-        };
-    }
-    let due = lowered(kept);
-    Marks {
-        complete: complete,
-        required: due,
+        },
+        None => Marks {
+            complete,
+            required: lowered(kept),
+        },
     }
 }
 

@@ -1,9 +1,10 @@
 -- `weighed` meets its contract: a group lacks a member, or the row has the marks.
 use mathlib.Core.Path.{refl}
+use native.Mathlib.Omega.{arith}
 use Rattle.open_elements.proofs.weighed.Goals as goal
 
-pub returns-then-m-ne-FREE : goal.returns-then-m-ne-FREE
-returns-then-m-ne-FREE c = record { held = λ n. (refl, refl); free = λ i. absurd (c.if-m-ne-FREE.true i) }
+pub returns-in-Some : goal.returns-in-Some
+returns-in-Some c = let few = c.requires in rw c.in-Some.is (record { held = λ n. (refl, refl); free = λ i. absurd (omega (arith, i, rw c.in-Some.is at few)) })
 
-pub returns : goal.returns
-returns c = record { held = λ n. absurd (n c.if-m-ne-FREE.false); free = λ i. (refl, c.lowered-due.ensures.0, c.lowered-due.ensures.1) }
+pub returns-in-None : goal.returns-in-None
+returns-in-None c = rw c.in-None.is (record { held = λ n. absurd (n refl); free = λ i. (refl, c.lowered.ensures.0, c.lowered.ensures.1) })

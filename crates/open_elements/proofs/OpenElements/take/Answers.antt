@@ -10,6 +10,6 @@ pub returns : goal.returns
 returns c =
     taking_by c.args.self
     (elim c.if-kept-gt-GRPGTCNT.branch [
-      | then-kept-gt-GRPGTCNT w ↦ marking_same w.begun-is w.complete-is (ap (λ (p : Place). p.0) w.required-is) (marking_among c.kept-kept.ensures.0 c.complete-complete.ensures w.if-kept-gt-GRPGTCNT.true w.take-m.ensures w.weighed-marks.ensures)
+      | then-kept-gt-GRPGTCNT w ↦ marking_same w.begun-is w.complete-is (ap (λ (p : Place). p.0) w.required-is) (marking_among c.kept-kept.ensures.0 c.complete-complete.ensures w.if-kept-gt-GRPGTCNT.true w.take-m.ensures.value w.weighed-marks.ensures)
       | else-kept-gt-GRPGTCNT w ↦ marking_same w.begun-is w.complete-is (ap (λ (p : Place). p.0) w.required-is) (marking_plain c.kept-kept.ensures.0 c.complete-complete.ensures w.if-kept-gt-GRPGTCNT.false)
     ])
