@@ -227,22 +227,25 @@ module _ (long : ℕ) (inner : ℕ → List Place → ℕ → Reading Tokens) (s
       → (T : List ℕ) (n d : ℕ) (t₀ : Tokens) → Keeps (length s) (begun lo T n (d + 1)) 1 0 names₀ table₀ m₀ t₀ → (m.at ≤ length s) × (m.places ≤ m.tokens) × (m.tokens ≤ GRPGTCNT)
   so_in names table m k joint S T n d t₀ K₀ = omega (arith, (S.read T n d t₀ K₀).1)
 
+  module _ (names table : List ℕ) (m : Model) (k joint : ℕ) (S : So long inner s lo names₀ table₀ m₀ names table m k joint) where
+    -- What follows them is refused.
+    pub so_unfit : (T : List ℕ) (n d : ℕ) (t₀ : Tokens) → Keeps (length s) (begun lo T n (d + 1)) 1 0 names₀ table₀ m₀ t₀ → (y : Reading Tokens) → y ≡ members long inner s GRPCNT 1 0 t₀
+        → (f : Fault) → ((T : List ℕ) (n d : ℕ) (t : Tokens) → Keeps (length s) (begun lo T n (d + 1)) k joint names table m t → Refuses f (further long inner s k joint t)) → Refuses f y
+    so_unfit T n d t₀ K₀ y q f N =
+        let w = S.read T n d t₀ K₀ in
+        refuses y refl (q ∙ w.2 ∙ members_refused long inner s k joint w.0 S.few _ _ (refused_is f _ (N T n d w.0 w.1)))
+
   module _ (names table : List ℕ) (m : Model) (k joint : ℕ) (S : So long inner s lo names₀ table₀ m₀ names table m k joint) (names' table' : List ℕ) where
     -- What follows them stands for such an answer.
     abbrev Follows : Result Next Fault → Type 0
     Follows r = (T : List ℕ) (n d : ℕ) (t : Tokens) → Keeps (length s) (begun lo T n (d + 1)) k joint names table m t → MeetsFurther (length s) (begun lo T n d) k names' table' r (further long inner s k joint t)
 
-    module _ (T : List ℕ) (n d : ℕ) (t₀ : Tokens) (K₀ : Keeps (length s) (begun lo T n (d + 1)) 1 0 names₀ table₀ m₀ t₀) (y : Reading Tokens) (q : y ≡ members long inner s GRPCNT 1 0 t₀) where
-      pub so_closed : (u : Model) → Follows (Ok (Closed u)) → Meets (length s) (begun lo T n d) names' table' (Ok u) y
-      so_closed u N =
-          let w = S.read T n d t₀ K₀ in
-          let x = closed_got _ (begun lo T n d) k names' table' u _ (N T n d w.0 w.1) in
-          got_meets _ (begun lo T n d) names' table' u _ _ (q ∙ w.2 ∙ members_closed long inner s k joint w.0 S.few x.0 x.1) x.2
-
-      pub so_unfit : (f : Fault) → Follows (Err f) → Refuses f y
-      so_unfit f N =
-          let w = S.read T n d t₀ K₀ in
-          refuses y refl (q ∙ w.2 ∙ members_refused long inner s k joint w.0 S.few _ _ (refused_is f _ (N T n d w.0 w.1)))
+    pub so_closed : (T : List ℕ) (n d : ℕ) (t₀ : Tokens) → Keeps (length s) (begun lo T n (d + 1)) 1 0 names₀ table₀ m₀ t₀ → (y : Reading Tokens) → y ≡ members long inner s GRPCNT 1 0 t₀
+        → (u : Model) → Follows (Ok (Closed u)) → Meets (length s) (begun lo T n d) names' table' (Ok u) y
+    so_closed T n d t₀ K₀ y q u N =
+        let w = S.read T n d t₀ K₀ in
+        let x = closed_got _ (begun lo T n d) k names' table' u _ (N T n d w.0 w.1) in
+        got_meets _ (begun lo T n d) names' table' u _ _ (q ∙ w.2 ∙ members_closed long inner s k joint w.0 S.few x.0 x.1) x.2
 
     pub so_joined : (T : List ℕ) (n d : ℕ) (t₀ : Tokens) → Keeps (length s) (begun lo T n (d + 1)) 1 0 names₀ table₀ m₀ t₀ → (b : ℕ) (u : Model) → Follows (Ok (Joined b u))
         → (k < GRPCNT) × So long inner s lo names₀ table₀ m₀ names' table' u (k + 1) b
