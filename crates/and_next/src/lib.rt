@@ -4,72 +4,74 @@
 // the table tells no model, or the bits are not those of the places taken in it, what `may_follow` answers is not decided.
 #![tactic(auto)]
 
-ghost use Rattle.std.specs.Prelude.{◌≤◌, ◌<◌, length};
+ghost use Rattle.std.specs.Prelude.{◌≤◌, ◌<◌};
 ghost use Rattle.rules.specs.Bytes.{GRPGTCNT, TAGLVL, element_limit};
-ghost use Rattle.layout.specs.Sizes.{MEMBERS, AND_GROUPS};
+ghost use Rattle.layout.specs.Sizes.{AND_GROUPS};
 ghost use Rattle.and_next.specs.Follows.{Follows};
 ghost use Rattle.and_next.specs.Forbidding.{IsFull, IsLeft, Comes};
 
 use layout::{AND_GROUPS, BEGUN, ENDING, ElementNo, GRPGTCNT, MEMBERS, Place};
 use member_bits::Bits;
+use member_numbers::Members;
 
-// Whether no group from the group g outwards lacks a member.
-fn is_full(members: &[u8], e: ElementNo, g: usize, b: Bits) -> bool
-    requires in_bounds { MEMBERS ≤ length members.now }
-    requires e_le_element_limit { (e.0 ≤ element_limit) × (g ≤ AND_GROUPS) }
-    ensures { IsFull members.now e.0 g b result }
-{
-    let needed = member_bits::common(
-        member_numbers::among(members, e, g),
-        member_numbers::needed(members, e),
-    );
-    member_bits::is_none(member_bits::without(needed, b))
+// A member and its group.
+#[derive(Clone, Copy)]
+struct Member {
+    number: usize,
+    group: usize,
+    ghost one: { 1 ≤ number },
+    ghost few: { number ≤ GRPGTCNT },
+    ghost grouped: { group ≤ AND_GROUPS },
 }
 
-// Whether p may come next, in the member i of the group f, where u is in the member h of the group g: the groups around u that p is not in lack nothing, and in
-// the first that p is in its member is that of u or has not begun.
-fn is_left(members: &[u8], e: ElementNo, h: usize, g: usize, i: usize, f: usize, b: Bits) -> bool
-    requires in_bounds { MEMBERS ≤ length members.now }
-    requires e_le_element_limit { (e.0 ≤ element_limit) × (1 ≤ h) × (h ≤ GRPGTCNT) × (1 ≤ i) × (i ≤ GRPGTCNT) × (g ≤ AND_GROUPS) × (f ≤ AND_GROUPS) }
-    ensures { IsLeft members.now e.0 h g i f b result }
+// Whether no group from the group g outwards lacks a member.
+fn is_full(m: Members, g: usize, b: Bits) -> bool
+    requires { g ≤ AND_GROUPS }
+    ensures { IsFull m.entry.table.now m.entry.e.0 g b result }
 {
-    let around = member_numbers::among(members, e, g);
-    let beside = member_bits::without(around, member_numbers::among(members, e, f));
-    let needed = member_bits::common(beside, member_numbers::needed(members, e));
-    let lacking = member_bits::without(needed, b);
-    let hold = member_bits::with(member_numbers::holding(members, e, f), i);
-    let other = member_bits::without(
-        hold,
-        member_bits::with(member_numbers::holding(members, e, g), h),
-    );
-    let again = member_bits::common(member_bits::common(other, around), b);
-    member_bits::is_none(member_bits::joined(lacking, again))
+    let needed = m.among(g) & m.needed();
+    (needed - b).is_none()
+}
+
+// Whether p may come next, in the member `next`, where u is in the member `last`: the groups around u that p is not in lack nothing, and in the first that p is in
+// its member is that of u or has not begun.
+fn is_left(m: Members, last: Member, next: Member, b: Bits) -> bool
+    ensures { IsLeft m.entry.table.now m.entry.e.0 last.number last.group next.number next.group b result }
+{
+    let around = m.among(last.group);
+    let beside = around - m.among(next.group);
+    let lacking = (beside & m.needed()) - b;
+    let hold = m.holding(next.group).with(next.number);
+    let own = m.holding(last.group).with(last.number);
+    let again = (hold - own) & around & b;
+    (lacking | again).is_none()
 }
 
 // Whether p may come next, of which i is the innermost member that holds it, or 0, and h that of u.
-fn may_come(members: &[u8], e: ElementNo, h: usize, i: usize, b: Bits) -> bool
-    requires in_bounds { MEMBERS ≤ length members.now }
-    requires e_le_element_limit { (e.0 ≤ element_limit) × (1 ≤ h) × (h ≤ GRPGTCNT) × (i ≤ GRPGTCNT) }
-    ensures { Comes members.now e.0 h i b result }
+fn may_come(m: Members, h: usize, i: usize, b: Bits) -> bool
+    requires { (1 ≤ h) × (h ≤ GRPGTCNT) × (i ≤ GRPGTCNT) }
+    ensures { Comes m.entry.table.now m.entry.e.0 h i b result }
 {
-    let g = member_numbers::group_of(members, e, h);
+    let g = m.group_of(h);
     if AND_GROUPS < g {
         return true;
     }
     if i == 0 {
-        return is_full(members, e, g, b);
+        return is_full(m, g, b);
     }
-    let f = member_numbers::group_of(members, e, i);
+    let f = m.group_of(i);
     if f == g {
         if h == i {
             return true;
         }
-        return !member_bits::has(b, i);
+        return !b.has(i);
     }
     if AND_GROUPS < f {
         return true;
     }
-    is_left(members, e, h, g, i, f, b)
+    let last = Member { number: h, group: g };
+    let next = Member { number: i, group: f };
+    is_left(m, last, next, b)
 }
 
 // Whether p, which may come next after u for some beginning, may come next where these members have begun.
@@ -87,8 +89,9 @@ pub fn may_follow(
     if members.len() < MEMBERS {
         return true;
     }
-    let h = member_numbers::holder(members, e, u) % ENDING;
-    let i = member_numbers::holder(members, e, p) % ENDING;
+    let m = Members { table: members, e };
+    let h = m.holder(u) % ENDING;
+    let i = m.holder(p) % ENDING;
     if h == 0 {
         return true;
     }
@@ -98,5 +101,5 @@ pub fn may_follow(
     if GRPGTCNT < i {
         return true;
     }
-    may_come(members, e, h, i, begun_bits::begun_at(begun, level))
+    may_come(m, h, i, begun_bits::begun_at(begun, level))
 }

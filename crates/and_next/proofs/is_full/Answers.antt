@@ -2,9 +2,7 @@
 use Rattle.and_next.proofs.is_full.Goals as goal
 
 pub returns : goal.returns
-returns c = let common = c.before.before.before in
-    let among = common.before.before in
-    record {
-      none = λ t B has. c.is_none.ensures.none t _ (c.without.ensures _ _ (common.common-needed.ensures _ _ among.among.ensures common.needed.ensures) has);
-      some = λ t B has. c.is_none.ensures.some t _ (c.without.ensures _ _ (common.common-needed.ensures _ _ among.among.ensures common.needed.ensures) has);
-    }
+returns c = record {
+  none = λ t B has. c.is_none.ensures.none t _ (c.sub.ensures _ _ (c.bitand-needed.ensures _ _ c.among.ensures c.needed.ensures) has);
+  some = λ t B has. c.is_none.ensures.some t _ (c.sub.ensures _ _ (c.bitand-needed.ensures _ _ c.among.ensures c.needed.ensures) has);
+}

@@ -2,12 +2,7 @@
 use Rattle.and_next.proofs.is_left.Goals as goal
 
 pub returns : goal.returns
-returns c = let again = c.before.before.before in
-    let other = again.before.before in
-    let hold = other.before.before.before in
-    let lacking = hold.before.before in
-    let beside = lacking.before.before.before in
-    record {
-      none = λ t B has. c.is_none.ensures.none t _ (c.joined.ensures _ _ (lacking.without-lacking.ensures _ _ (lacking.common-needed.ensures _ _ (beside.without-beside.ensures _ _ beside.among-around.ensures beside.among.ensures) lacking.needed.ensures) has) (again.common-again.ensures _ _ (again.common.ensures _ _ (other.without-other.ensures _ _ (hold.with-hold.ensures _ hold.holding.ensures) (other.with.ensures _ other.holding-2.ensures)) beside.among-around.ensures) has));
-      some = λ t B has. c.is_none.ensures.some t _ (c.joined.ensures _ _ (lacking.without-lacking.ensures _ _ (lacking.common-needed.ensures _ _ (beside.without-beside.ensures _ _ beside.among-around.ensures beside.among.ensures) lacking.needed.ensures) has) (again.common-again.ensures _ _ (again.common.ensures _ _ (other.without-other.ensures _ _ (hold.with-hold.ensures _ hold.holding.ensures) (other.with.ensures _ other.holding-2.ensures)) beside.among-around.ensures) has));
-    }
+returns c = record {
+  none = λ t B has. c.is_none.ensures.none t _ (c.bitor.ensures _ _ (c.sub-lacking.ensures _ _ (c.bitand.ensures _ _ (c.sub-beside.ensures _ _ c.among-around.ensures c.among.ensures) c.needed.ensures) has) (c.bitand-again.ensures _ _ (c.bitand-2.ensures _ _ (c.sub.ensures _ _ (c.with-hold.ensures _ c.holding.ensures) (c.with-own.ensures _ c.holding-2.ensures)) c.among-around.ensures) has));
+  some = λ t B has. c.is_none.ensures.some t _ (c.bitor.ensures _ _ (c.sub-lacking.ensures _ _ (c.bitand.ensures _ _ (c.sub-beside.ensures _ _ c.among-around.ensures c.among.ensures) c.needed.ensures) has) (c.bitand-again.ensures _ _ (c.bitand-2.ensures _ _ (c.sub.ensures _ _ (c.with-hold.ensures _ c.holding.ensures) (c.with-own.ensures _ c.holding-2.ensures)) c.among-around.ensures) has));
+}

@@ -10,25 +10,13 @@ pub returns-then-i-eq0 : goal.returns-then-i-eq0
 returns-then-i-eq0 c = comes_full _ _ _ _ _ (omega arith) _ c.group_of-g.ensures.0 c.if-i-eq0.true _ c.is_full.ensures
 
 pub returns-then-h-i : goal.returns-then-h-i
-returns-then-h-i c = let grouped = c.before.before.before in
-    let inside = grouped.before in
-    let first = inside.before.before in
-    comes_one _ _ _ _ _ (omega arith) _ first.group_of-g.ensures.0 (omega (arith, inside.if-i-eq0.false)) _ grouped.group_of-f.ensures.0 c.if-f-g.true c.if-h-i.true
+returns-then-h-i c = comes_one _ _ _ _ _ (omega arith) _ c.group_of-g.ensures.0 (omega (arith, c.if-i-eq0.false)) _ c.group_of-f.ensures.0 c.if-f-g.true c.if-h-i.true
 
 pub returns-then-f-g : goal.returns-then-f-g
-returns-then-f-g c = let grouped = c.before.before.before.before in
-    let inside = grouped.before in
-    let first = inside.before.before in
-    comes_other _ _ _ _ _ (omega arith) _ first.group_of-g.ensures.0 (omega (arith, inside.if-i-eq0.false)) _ grouped.group_of-f.ensures.0 c.if-f-g.true c.if-h-i.false _ c.has.ensures
+returns-then-f-g c = comes_other _ _ _ _ _ (omega arith) _ c.group_of-g.ensures.0 (omega (arith, c.if-i-eq0.false)) _ c.group_of-f.ensures.0 c.if-f-g.true c.if-h-i.false _ c.has.ensures
 
 pub returns-then-f-gt-AND_GROUPS : goal.returns-then-f-gt-AND_GROUPS
-returns-then-f-gt-AND_GROUPS c = let grouped = c.before.before.before in
-    let inside = grouped.before in
-    let first = inside.before.before in
-    comes_beside _ _ _ _ _ (omega arith) _ first.group_of-g.ensures.0 (omega (arith, inside.if-i-eq0.false)) _ grouped.group_of-f.ensures.0 c.if-f-gt-AND_GROUPS.true _
+returns-then-f-gt-AND_GROUPS c = comes_beside _ _ _ _ _ (omega arith) _ c.group_of-g.ensures.0 (omega (arith, c.if-i-eq0.false)) _ c.group_of-f.ensures.0 c.if-f-gt-AND_GROUPS.true _
 
 pub returns : goal.returns
-returns c = let grouped = c.before.before.before.before in
-    let inside = grouped.before in
-    let first = inside.before.before in
-    comes_left _ _ _ _ _ (omega arith) _ first.group_of-g.ensures.0 (omega (arith, inside.if-i-eq0.false)) _ grouped.group_of-f.ensures.0 _ c.is_left.ensures
+returns c = comes_left _ _ _ _ _ (omega arith) _ c.group_of-g.ensures.0 (omega (arith, c.if-i-eq0.false)) _ c.group_of-f.ensures.0 _ c.is_left.ensures
