@@ -1,5 +1,5 @@
 -- Laws of the rules' pieces: each way that reading goes.
-use Rattle.std.specs.Prelude.{ℕ, Result, Ok, Err, ◌+◌, ◌≡◌, refl, Bool, true, false, ◌&&◌, ◌||◌, List, eqb}
+use Rattle.std.specs.Prelude.{ℕ, Result, Ok, Err, IsErrAnd, ◌+◌, ◌≡◌, refl, Bool, true, false, ◌&&◌, ◌||◌, List, eqb}
 use Rattle.std.proofs.Common.{sym, ap, subst, ◌∙◌, true≢false}
 use borrow.Author.Tests.{eq-eqb, ne_eqb}
 use Rattle.rules.specs.Bytes.{byte_at, letter, AND, DSO, EXCLAMATION, MDC, OPT, RE, RS, SOLIDUS, SPACE, STAGO, TAB}
@@ -7,13 +7,23 @@ use Rattle.rules.specs.Reading.{Reading, refused, got}
 use Rattle.rules.specs.Attributes.{is_reference}
 use Rattle.rules.specs.TypeFile.{at_dashes, comment_declaration}
 use Rattle.rules.specs.Document.{Written, Tag, Piece, start_tag, end_tag, skipped, blank, data_byte, tag, start_tag_at, malformed, declaration_piece, markup_piece, is_section_end, byte_piece, piece}
+use Rattle.std.specs.Result.{MatchResult}
 use Rattle.text.specs.declared.Fault.{Fault}
+use Rattle.text.specs.declared.Refusal.TheVariants.{Malformed}
+use Rattle.text.specs.Refusal.{fault_at, refusal_of, reached}
 use Rattle.tags.specs.Tags.{tag_with, tag_in}
 use Rattle.tags.specs.Given.{ReadAs}
 use Rattle.tags.specs.declared.Tag as here
 use Rattle.document_text.specs.PieceOf.{piece_in, piece_of, Stands, MeetsPiece, as_start_tag, as_end_tag, as_skipped}
 use Rattle.document_text.specs.declared.Piece as code
 use Rattle.document_text.specs.declared.Piece.TheVariants as token
+
+-- What is refused in a comment declaration is malformed: m is r but for that.
+pub remalformed : (r m : Result ℕ Fault) {P : Fault → Fault → Type 0} → MatchResult r (λ i. m ≡ Ok i) (λ f. IsErrAnd m (λ g. P f g))
+    → ((f g : Fault) → P f g → g ≡ fault_at Malformed f.at) → reached m ≡ malformed (reached r)
+remalformed (Ok i) m h p = ap reached h
+remalformed (Err f) (Ok i) h p = elim h [ ]
+remalformed (Err f) (Err g) h p = ap refusal_of (p f g h)
 
 -- `<!` at i, before the byte b.
 module _ (s : List ℕ) (i b : ℕ) (q : b ≡ byte_at s (i + 2)) where
