@@ -1,5 +1,5 @@
 -- The lists of a type: one more of them, and all of them read again.
-use Rattle.std.specs.Prelude.{ℕ, zero, suc, ◌+◌, ◌-◌, ◌*◌, ◌≤◌, ◌<◌, ◌≡◌, refl, Bool, not, ◌||◌, length, get_or, set, replicate}
+use Rattle.std.specs.Prelude.{ℕ, Result, Ok, Err, is_ok, zero, suc, ◌+◌, ◌-◌, ◌*◌, ◌≤◌, ◌<◌, ◌≡◌, refl, Bool, not, ◌||◌, length, get_or, set, replicate}
 use Rattle.std.proofs.Common.{sym, ◌∙◌, subst, true≢false, inl, inr, arith, get_or-set_same, get_or-set_other, eq-eqb, ne_eqb}
 use Rattle.std.proofs.Math.Path.{ap}
 use Rattle.std.proofs.Math.Bool.{true, false}
@@ -18,7 +18,7 @@ use Rattle.text.specs.Refusal.{refusal_of}
 use Rattle.layout.specs.Sizes.{LIST, LISTS}
 use Rattle.layout.specs.declared.ElementNo.{ElementNo}
 use Rattle.list_table.specs.Lists.{ListAt, Lists, Copied}
-use Rattle.list_definitions.specs.ListAs.{ListAs}
+use Rattle.list_definitions.specs.ListAs.{ListAs, MeetsList}
 use Rattle.attribute_lists.specs.Listed.{HeadRead, Headed, HeadedAs, any_in, ListsAs, Again}
 use Rattle.attribute_lists.specs.Lookup.{any_found}
 use Rattle.rules_laws.specs.Holds.{got_one}
@@ -177,7 +177,7 @@ module _ (long : ℕ) (s : List ℕ) (from k : ℕ) (lists : List ℕ) where
   pub again_outside : (3 ≤ from → from ≤ length s → ⊥) → Again long s from k lists lists
   again_outside h = record { as_long = refl; none = λ z. refl; there = λ ls r. absurd (h r.begins r.inside); others = λ b xs o l. l }
 
-  pub again_refused : {f : Fault} → list_from long s from ≡ refusal_of f → Again long s from k lists lists
+  again_refused : {f : Fault} → list_from long s from ≡ refusal_of f → Again long s from k lists lists
   again_refused {f} q =
       record {
         as_long = refl;
@@ -189,7 +189,7 @@ module _ (long : ℕ) (s : List ℕ) (from k : ℕ) (lists : List ℕ) where
       never : {l : ListEnd} → list_from long s from ≡ got l → ⊥
       never e = let z : ◌≡◌ {A = ℕ} 0 1 = cc in omega arith
 
-  pub again_put : (list after : List ℕ) (e : ℕ) → 3 ≤ from → ListAs long s list e (list_from long s from) → Copied list (LIST * k) lists after → Again long s from k lists after
+  again_put : (list after : List ℕ) (e : ℕ) → 3 ≤ from → ListAs long s list e (list_from long s from) → Copied list (LIST * k) lists after → Again long s from k lists after
   again_put list after e begins r put =
       record {
         as_long = put.long;
@@ -200,6 +200,15 @@ module _ (long : ℕ) (s : List ℕ) (from k : ℕ) (lists : List ℕ) where
     where
       same : (xs ys : List Attribute) (i j : ℕ) → list_from long s from ≡ got (record { attributes = xs; at = i }) → list_from long s from ≡ got (record { attributes = ys; at = j }) → xs ≡ ys
       same xs ys i j p q = ap (λ (l : ListEnd). l.attributes) (got_one (sym p ∙ q))
+
+  -- By what the code says of it.
+  pub again_ok : (list after : List ℕ) (r : Result ℕ Fault) {b : Bool} → MeetsList long s list r (list_from long s from) → b ≡ is_ok r → b ≡ true → 3 ≤ from → Copied list (LIST * k) lists after → Again long s from k lists after
+  again_ok list after (Ok e) m q h begins put = again_put list after e begins m put
+  again_ok list after (Err f) m q h begins put = absurd (true≢false (sym h ∙ q))
+
+  pub again_err : (list : List ℕ) (r : Result ℕ Fault) {b : Bool} → MeetsList long s list r (list_from long s from) → b ≡ is_ok r → b ≡ false → Again long s from k lists lists
+  again_err list (Ok e) m q h = absurd (true≢false (sym q ∙ h))
+  again_err list (Err f) m q h = again_refused m
 
 -- The first k lists are in the table, and the others are empty.
 pub record Fills (long : ℕ) (s heads lists : List ℕ) (k : ℕ) : Type 0 where

@@ -18,7 +18,7 @@ use layout::{ELEMENTS, ElementNo, LIST, RECORD, RECORDS};
 use text::{Reading, Refusal};
 
 // The element of a list, and where its name ends.
-#[derive(Clone, Copy, Debug, PartialEq, Eq)]
+#[derive(Clone, Copy)]
 pub struct Head {
     pub element: ElementNo,
     pub at: usize,
@@ -144,8 +144,7 @@ fn read_again(long: usize, s: &[u8], from: usize, k: usize, lists: &mut [u16])
         return;
     }
     let mut list = [0u16; LIST];
-    let r = list_definitions::definitions_at(long, s, from, &mut list);
-    if r.is_ok() {
+    if list_definitions::definitions_at(long, s, from, &mut list).is_ok() {
         list_table::put_list(lists, k, &list);
     }
 }

@@ -12,7 +12,7 @@ use Rattle.attribute_lists.proofs.listed_at.Goals as goal
 
 pub returns-then-b-eq40 : goal.returns-then-b-eq40
 returns-then-b-eq40 c = let a = c.args in
-    (λ es ls n r h. listed_group a.long a.s.now es ls a.i (tested letter c.byte-b.ensures c.is_letter.ensures c.if-not-is_letter.true) (sym c.byte-b.ensures ∙ c.if-b-eq40.true), tt)
+    (λ es ls n r h. ap refusal_of c.at.ensures ∙ listed_group a.long a.s.now es ls a.i (tested letter c.byte-b.ensures c.is_letter.ensures c.if-not-is_letter.true) (sym c.byte-b.ensures ∙ c.if-b-eq40.true), tt)
 
 pub returns-then-not-is_letter : goal.returns-then-not-is_letter
 returns-then-not-is_letter c = let a = c.args in (
@@ -27,7 +27,7 @@ overflow_sub-e c = omega (arith, name_end_from c.args.s.now c.args.i, c.name_end
 
 pub returns-then-long-e : goal.returns-then-long-e
 returns-then-long-e c = let a = c.args in
-    (λ es ls n r h. listed_long a.long a.s.now es ls a.i (tested letter c.byte-b.ensures c.is_letter.ensures c.if-not-is_letter.false) _ c.name_end-e.ensures c.if-long-e.true, tt)
+    (λ es ls n r h. ap refusal_of c.at-then-long-e.ensures ∙ listed_long a.long a.s.now es ls a.i (tested letter c.byte-b.ensures c.is_letter.ensures c.if-not-is_letter.false) _ c.name_end-e.ensures c.if-long-e.true, tt)
 
 pub overflow_sub-e-2 : goal.overflow_sub-e-2
 overflow_sub-e-2 c = omega (arith, name_end_from c.args.s.now c.args.i, c.name_end-e.ensures)
@@ -38,14 +38,14 @@ element_of-k-requires c = omega (arith, c.requires, name_end_le c.args.s.now c.a
 pub returns-then-k-eq0 : goal.returns-then-k-eq0
 returns-then-k-eq0 c = let a = c.args in (
   λ es ls n r h.
-      listed_undeclared a.long a.s.now es ls a.i (tested letter c.byte-b.ensures c.is_letter.ensures c.if-not-is_letter.false) _ c.name_end-e.ensures c.if-long-e.false (c.element_of-k.ensures.0 es n r) c.if-k-eq0.true,
+      ap refusal_of c.at-then-k-eq0.ensures ∙ listed_undeclared a.long a.s.now es ls a.i (tested letter c.byte-b.ensures c.is_letter.ensures c.if-not-is_letter.false) _ c.name_end-e.ensures c.if-long-e.false (c.element_of-k.ensures.0 es n r) c.if-k-eq0.true,
   tt,
 )
 
 pub returns-then-heads-k-ne0 : goal.returns-then-heads-k-ne0
 returns-then-heads-k-ne0 c = let a = c.args in (
   λ es ls n r h.
-      listed_twice a.long a.s.now es ls a.i (tested letter c.byte-b.ensures c.is_letter.ensures c.if-not-is_letter.false) _ c.name_end-e.ensures c.if-long-e.false (c.element_of-k.ensures.0 es n r) c.if-k-eq0.false
+      ap refusal_of c.at-then-heads-k-ne0.ensures ∙ listed_twice a.long a.s.now es ls a.i (tested letter c.byte-b.ensures c.is_letter.ensures c.if-not-is_letter.false) _ c.name_end-e.ensures c.if-long-e.false (c.element_of-k.ensures.0 es n r) c.if-k-eq0.false
       (listed_head a.long a.s.now a.heads.now ls _ h (omega (arith, c.if-k-eq0.false)) (omega (arith, c.element_of-k.ensures.1, c.requires))) (ap not (ne_eqb _ _ c.if-heads-k-ne0.true)),
   tt,
 )
