@@ -123,7 +123,7 @@ module _ (end : ℕ) (names table : List ℕ) where
   pub body_meets : (b : Body) (c : ContentEnd) (x : Reading ContentEnd) → x ≡ got c → KeepsBody end names table b c → MeetsBody end names table (Ok b) x
   body_meets b c x q h = rw q h
 
-  pub body_refused : (f : Fault) (x : Reading ContentEnd) → x ≡ refused f.number f.at → MeetsBody end names table (Err f) x
+  pub body_refused : (f : Fault) (x : Reading ContentEnd) → x ≡ refusal_of f → MeetsBody end names table (Err f) x
   body_refused f x q = rw q (refl, refl)
 
   -- The word from i to e is wrong.

@@ -4,7 +4,7 @@
 ghost use Rattle.std.specs.Prelude.{◌≡◌, ◌≤◌, ◌<◌, length};
 ghost use Rattle.rules.specs.TypeFile.{content_word, content_model, content};
 ghost use Rattle.rules.specs.Bytes.{type_limit};
-ghost use Rattle.element_content.specs.Kept.{wrong_word, MeetsBody};
+ghost use Rattle.element_content.specs.Kept.{place, wrong_word, MeetsBody};
 
 use layout::{GRPLVL, MODEL, NAMES};
 use text::{Fault, Reading, Refusal};
@@ -69,6 +69,16 @@ fn body_word(
     Err(wrong_word(s, from, i, e))
 }
 
+// The position of an "&", of which 0 is none.
+fn place(at: usize) -> Option<usize>
+    ensures { result ≡ place at }
+{
+    match at {
+        0 => None,
+        _ => Some(at),
+    }
+}
+
 // A model group as content, with its names and its table.
 fn body_model(
     long: usize,
@@ -85,17 +95,13 @@ fn body_model(
     let m = connectors::with_occurrence(s, table, 1, g);
     let part = m.part;
     model_table::finish(table, part);
-    let repeated = match numbers::short(m.repeated) {
-        0 => None,
-        place => Some(place),
-    };
     Ok(Body {
         model: Some(Model {
             tokens: m.tokens,
             places: m.places,
             code: numbers::short(m.code),
             and: m.and != 0,
-            repeated: repeated,
+            repeated: place(numbers::short(m.repeated)),
         }),
         at: m.at,
     })

@@ -1,9 +1,9 @@
 -- `body_word` meets its contract: each way by the tests that led there.
-use Rattle.std.proofs.Common.{◌≡◌, ◌<◌, ◌-◌, true, false, ◌&&◌, ◌||◌, refl, sym, ◌∙◌, length, ltb, arith}
+use Rattle.std.proofs.Common.{◌≡◌, ◌<◌, ◌-◌, true, false, ◌&&◌, ◌||◌, refl, sym, ap, ◌∙◌, length, ltb, arith, lt-ltb, le-ltb}
 use Rattle.std.proofs.Math.Bool.{and-false}
-use borrow.Author.Tests.{lt-ltb, le-ltb}
 use Rattle.rules.specs.Bytes.{name_end}
 use Rattle.rules.specs.TypeFile.{is_word, EMPTY, ANY, CDATA, RCDATA}
+use Rattle.text.specs.Refusal.{refusal_of}
 use Rattle.text.specs.Words.{name_end_from, name_end_le}
 use Rattle.element_content.specs.Contents.{word_long, word_empty, word_named, word_other, body_meets, body_refused, body_wrong}
 use Rattle.element_content.proofs.body_word.Goals as goal
@@ -16,7 +16,7 @@ pub returns-then-long-e : goal.returns-then-long-e
 returns-then-long-e c =
     let a = c.args in
     let long : a.long < name_end a.s.now a.i - a.i = rw c.name_end-e.ensures at c.if-long-e.true in
-    body_refused (length a.s.now) a.names.now a.table.now _ _ (word_long a.long a.s.now a.from a.i long)
+    body_refused (length a.s.now) a.names.now a.table.now _ _ (word_long a.long a.s.now a.from a.i long ∙ sym (ap refusal_of c.at.ensures))
 
 pub is_word-requires : goal.is_word-requires
 is_word-requires c = omega (arith, name_end_from c.args.s.now c.args.i, name_end_le c.args.s.now c.args.i c.requires.0, c.name_end-e.ensures)
@@ -28,7 +28,7 @@ returns-then-is_word c =
     let passed : (ltb a.from a.i && is_word a.s.now a.i (name_end a.s.now a.i) EMPTY) ≡ true =
     rw (lt-ltb _ _ c.if-from-i.true, ← e.ensures) (sym c.is_word.ensures ∙ c.if-is_word.true) in
     body_meets (length a.s.now) a.names.now a.table.now _ _ _ (word_empty a.long a.s.now a.from a.i (omega (arith, e.ensures)) passed)
-    (record { at = e.ensures; at_in = name_end_le a.s.now a.i c.requires.0; repeated_at = refl; content = (refl, refl) })
+    (record { at = e.ensures; at_in = name_end_le a.s.now a.i c.requires.0; repeated_at = refl; content = tt })
 
 pub is_word-requires-2 : goal.is_word-requires-2
 is_word-requires-2 c = omega (arith, name_end_from c.args.s.now c.args.i, name_end_le c.args.s.now c.args.i c.requires.0, c.name_end-e.ensures)
@@ -56,7 +56,7 @@ returns-then-is_word-2 c =
           rw (← c.is_word-2.ensures, w.if-is_word-2.false, ← w.is_word-else-is_word-2.ensures, w.if-is_word-3.false, ← w.is_word-else-is_word-3.ensures, w.if-is_word-4.true)
     ] in
     body_refused (length a.s.now) a.names.now a.table.now _ _
-    (word_named a.long a.s.now a.from a.i (omega (arith, e.ensures)) no_empty (rw e.ensures at passed))
+    (word_named a.long a.s.now a.from a.i (omega (arith, e.ensures)) no_empty (rw e.ensures at passed) ∙ sym (ap refusal_of c.at-then-is_word-2.ensures))
 
 pub wrong_word-requires : goal.wrong_word-requires
 wrong_word-requires c = omega (arith, name_end_from c.args.s.now c.args.i, name_end_le c.args.s.now c.args.i c.requires.0, c.name_end-e.ensures)
