@@ -10,6 +10,7 @@ ghost use Rattle.and_groups.specs.Takes.{answer_of};
 ghost use Rattle.open_elements.specs.Stands.{entry, fresh, opening, ended, bare, Ranged, Weighs, Taking, Starting};
 
 use layout::{BEGUN, ElementNo, GRPGTCNT, Place, RAISE, ROWS, TAGLVL};
+use type_tables::TypeTables;
 
 // An open element, the place that was taken last in it, or 0, and its marks: whether its content is complete there, and
 // the place that is required, or 0. Each number is kept in a byte: `of` alone puts them there, and the methods alone read them.
@@ -137,24 +138,18 @@ impl OpenElements {
     }
 
     // The place is taken in the current element: its marks are those after this place.
-    pub fn take(
-        mut self,
-        rows: &[u8; ROWS],
-        members: &[u8],
-        begun: &mut [u32; BEGUN],
-        place: Place,
-    ) -> Self
+    pub fn take(mut self, t: TypeTables, begun: &mut [u32; BEGUN], place: Place) -> Self
         requires { Ranged self × (place.0 ≤ GRPGTCNT) }
-        ensures { Taking rows.now members.now begun.old place.0 self result begun.new }
+        ensures { Taking t.entry.rows.now t.entry.members.now begun.old place.0 self result begun.new }
     {
         let n = self.count;
         let e = self.element;
         let u = self.place;
-        let kept = type_tables::kept(rows, e, place);
-        let mut complete = type_tables::complete(rows, e, place);
+        let kept = type_tables::kept(t.rows, e, place);
+        let mut complete = type_tables::complete(t.rows, e, place);
         let mut required = Place(kept);
         if GRPGTCNT < kept {
-            let m = and_groups::take(members, begun, n, e, u, place);
+            let m = and_groups::take(t.members, begun, n, e, u, place);
             let marks = weighed(m, complete, kept);
             complete = marks.complete;
             required = marks.required;
@@ -189,32 +184,16 @@ impl OpenElements {
 
     // The required place is taken in the current element, which is kept, and its element opened in it.
     pub fn start_required(
-        mut self,
-        rows: &[u8; ROWS],
-        members: &[u8],
+        self,
+        t: TypeTables,
         begun: &mut [u32; BEGUN],
         element: ElementNo,
     ) -> Self
         requires { Ranged self × (self.count < TAGLVL) × (element.0 ≤ element_limit) }
-        ensures { Starting rows.now members.now begun.old element.0 self result begun.new }
+        ensures { Starting t.entry.rows.now t.entry.members.now begun.old element.0 self result begun.new }
     {
-        let n = self.count;
-        let e = self.element;
-        let u = self.place;
         let place = self.required;
-        let kept = type_tables::kept(rows, e, place);
-        let mut complete = type_tables::complete(rows, e, place);
-        let mut required = Place(kept);
-        if GRPGTCNT < kept {
-            let m = and_groups::take(members, begun, n, e, u, place);
-            let marks = weighed(m, complete, kept);
-            complete = marks.complete;
-            required = marks.required;
-        }
-        self.place = place;
-        self.complete = complete;
-        self.required = required;
-        self.start(rows, element)
+        self.take(t, begun, place).start(t.rows, element)
     }
 
     // The current element has ended: its parent is the current one again, as it was kept.
@@ -253,9 +232,7 @@ impl OpenElements {
             return true;
         }
         let around = self.around;
-        let mut i = self.count;
-        while 0 < i {
-            i -= 1;
+        for i in (0..self.count).rev() {
             let c = around[i];
             let k = c.number();
             if k.0 == x.0 {
