@@ -1,6 +1,6 @@
 -- Laws of words and of what is put into the buffer.
 use Rattle.std.specs.Prelude.{ℕ, zero, suc, ◌+◌, ◌-◌, ◌/◌, ◌%◌, ◌^◌, ◌≤◌, ◌<◌, ◌≡◌, refl, List, [], ◌∷◌, ◌++◌, length, take, set}
-use Rattle.std.proofs.Common.{sym, ap, ◌∙◌, append_assoc, append-nil, arith, add-one, pow-suc, length-append, length-set, take-suc-set, le-leb, lt-ltb}
+use Rattle.std.proofs.Common.{sym, ap, ◌∙◌, append_assoc, append-nil, arith, add-one, add-zero, pow-suc, length-append, length-set, take-suc-set, le-leb, lt-ltb}
 use Rattle.std.proofs.Math.Nat.{pow-zero}
 use Rattle.std.proofs.lemmas.Bool.{lt-leb}
 use Rattle.io.specs.Digits.{last_digits, hex_digit_ascii, IsDigitCount}
@@ -28,45 +28,6 @@ puts_both {before} {middle} {after} {at} {q} {r} {x} {y} a b =
       text_is = b.text_is ∙ rw a.text_is (append_assoc (take at before) x y);
     }
 
--- A loop that puts the bytes of a text one by one: what is left of it after i of them.
-pub record Puts (before : List ℕ) (at : ℕ) (after : List ℕ) (i : ℕ) (left text : List ℕ) : Type 0 where
-  pub same : length after ≡ length before
-  pub rest : i + length left ≡ length text
-  pub text_is : take (at + i) after ++ left ≡ take at before ++ text
-
-pub puts_start : (before : List ℕ) (at : ℕ) (left text : List ℕ) → left ≡ text → Puts before at before 0 left text
-puts_start before at left text e =
-    let none : at + 0 ≡ at = omega arith in
-    record { same = refl; rest = omega (arith, ap length e); text_is = rw (none, e) }
-
-module _ {before after : List ℕ} {at i : ℕ} {left text : List ℕ} (p : Puts before at after i left text) (room : at + length text ≤ length before) where
-  pub puts_turn : {b : ℕ} {more : List ℕ} → left ≡ b ∷ more → Puts before at (set after (at + i) b) (i + 1) more text
-  puts_turn {b} {more} e =
-      let next : at + (i + 1) ≡ suc (at + i) = omega arith in
-      let counted = p.rest in
-      let long = p.same in
-      let fewer : length left ≡ suc (length more) = ap length e in
-      record {
-        same = length-set after (at + i) b ∙ p.same;
-        rest = omega arith;
-        text_is = rw (next, take-suc-set after (at + i) b (omega arith), append_assoc) (rw e at p.text_is);
-      }
-
-  pub puts_end : length text ≤ i → Adds before at after (at + i) text
-  puts_end h =
-      let counted = p.rest in
-      let none : left ≡ [] = no_length left (omega arith) in
-      record {
-        same = p.same;
-        ends = omega arith;
-        within = omega arith;
-        text_is = sym (append-nil (take (at + i) after)) ∙ rw none at p.text_is;
-      }
-    where
-      no_length : (l : List ℕ) → length l ≡ 0 → l ≡ []
-      no_length [] e = refl
-      no_length (x ∷ l) e = absurd (omega arith)
-
 -- Upper case, from the first byte on.
 
 pub upper_length : (s : List ℕ) (at n : ℕ) → length (upper s at n) ≡ n
@@ -74,22 +35,30 @@ unfolding upper
 upper_length s at zero = refl
 upper_length s at (suc n) = ap suc (upper_length s (at + 1) n)
 
-upper_more : (s : List ℕ) (at n : ℕ) → 0 < n → upper s at n ≡ fold (byte_at s at) ∷ upper s (at + 1) (n - 1)
+-- One byte more, at the end.
+upper_last : (s : List ℕ) (at n : ℕ) → upper s at (suc n) ≡ upper s at n ++ (fold (byte_at s (at + n)) ∷ [])
 unfolding upper
-upper_more s at zero h = absurd (omega arith)
-upper_more s at (suc n) h = let z : suc n - 1 ≡ n = omega arith in rw z
+upper_last s at zero = rw (add-zero at)
+upper_last s at (suc n) =
+    let e : at + suc n ≡ at + 1 + n = omega arith in
+    rw e (ap (λ (l : List ℕ). fold (byte_at s at) ∷ l) (upper_last s (at + 1) n))
 
-pub upper_start : (s : List ℕ) (from size : ℕ) → upper s (from + 0) (size - 0) ≡ upper s from size
-upper_start s from size =
-    let a : from + 0 ≡ from = omega arith in
-    let b : size - 0 ≡ size = omega arith in
-    rw (a, b)
+adds_none : {out : List ℕ} {at : ℕ} → at ≤ length out → Adds out at out at []
+adds_none {out} {at} h = record { same = refl; ends = omega arith; within = h; text_is = sym (append-nil (take at out)) }
 
-pub upper_next : (s : List ℕ) (from size i b : ℕ) → i < size → b ≡ fold (byte_at s (from + i)) → upper s (from + i) (size - i) ≡ b ∷ upper s (from + (i + 1)) (size - (i + 1))
-upper_next s from size i b h e =
-    let a : from + i + 1 ≡ from + (i + 1) = omega arith in
-    let d : size - i - 1 ≡ size - (i + 1) = omega arith in
-    rw (e, upper_more s (from + i) (size - i) (omega arith), a, d)
+-- The loop that puts a name in upper case: nothing is put yet, and a turn of it.
+pub upper_none : {out : List ℕ} {at i : ℕ} (s : List ℕ) (from : ℕ) → at ≤ length out → i ≡ from → Adds out at out at (upper s from (i - from))
+unfolding upper
+upper_none {i = i} s from h e =
+    let none : i - from ≡ 0 = omega arith in
+    rw (none, upper) (adds_none h)
+
+pub upper_turn : {before middle after : List ℕ} {at q r i b : ℕ} (s : List ℕ) (from : ℕ) → from ≤ i → b ≡ fold (byte_at s i) → Adds before at middle q (upper s from (i - from)) → Adds middle q after r (b ∷ [])
+    → Adds before at after r (upper s from (i + 1 - from))
+upper_turn {i} s from h e x y =
+    let more : i + 1 - from ≡ suc (i - from) = omega arith in
+    let here : i ≡ from + (i - from) = omega arith in
+    rw (more, upper_last s from (i - from), ← here, ← e) (puts_both x y)
 
 -- The digits that are written are the decimal number.
 
