@@ -1,88 +1,68 @@
 // The text of events and of a refusal, put into a buffer word by word. What the buffer holds behind the text is not decided.
-//
-// `elements` has the records of a type's elements, `attributes` those of its attributes (crate attribute_records), `total` of them.
 #![tactic(auto)]
 
 ghost use Rattle.std.specs.Prelude.{◌≡◌, ◌+◌, ◌*◌, ◌≤◌, ◌<◌, length, take};
-ghost use Rattle.rules.specs.Bytes.{ATTCNT, element_limit};
 ghost use Rattle.rules.specs.Printed.{refused_text};
-ghost use Rattle.layout.specs.Sizes.{PROGRAM_EVENTS, PROGRAM_TEXT, LINE};
+ghost use Rattle.layout.specs.Sizes.{PROGRAM_TEXT, LINE};
 ghost use Rattle.line_text.specs.Adds.{Adds};
-ghost use Rattle.event_names.specs.Names.{Fits, FitsAttributes};
 ghost use Rattle.event_lines.specs.TextOf.{line_at, lines_from, text_of};
 
-use layout::{ATTRIBUTE_RECORDS, EVENT, PROGRAM_ROOM, RECORDS};
+use event_names::{Events, Names};
+use layout::EVENT;
+use line_text::Line;
 
-// The line of the event k of n.
-fn put_event(
-    out: &mut [u8],
-    at: usize,
-    s: &[u8],
-    elements: &[u32; RECORDS],
-    attributes: &[u32; ATTRIBUTE_RECORDS],
-    total: usize,
-    numbers: &[u32; PROGRAM_ROOM],
-    k: usize,
-    n: usize,
-) -> usize
-    requires { (at + LINE ≤ length out.old) × Fits s.now elements.now × (k < n) × (n ≤ PROGRAM_EVENTS) × (total ≤ ATTCNT * element_limit) × FitsAttributes s.now attributes.now total }
-    ensures { Adds out.old at out.new result (line_at s.now elements.now attributes.now total numbers.now k n) × (result ≤ at + LINE) }
+// The line of the event k.
+fn put_event(line: &mut Line, names: Names, events: Events, k: usize)
+    requires { (line.old.at + LINE ≤ length line.old.out.now) × (k < events.count) }
+    ensures same_reference { line.new.out.ghost_name ≡ line.old.out.ghost_name }
+    ensures adds { Adds line.old.out.now line.old.at line.new.out.now line.new.at
+        (line_at names.entry.s.now names.entry.elements.now names.entry.attributes.now names.entry.total
+            events.entry.numbers.now k events.entry.count) }
+    ensures short { line.new.at ≤ line.old.at + LINE }
 {
     let i = EVENT * k;
-    let a = line_text::put_short(out, at, numbers[i], b' ');
-    let b = event_names::put_named(out, a, s, elements, attributes, total, numbers, k, n);
-    let c = line_text::put_short(out, b, numbers[i + 2], b' ');
-    line_text::put_short(out, c, numbers[i + 3], b'\n')
+    line.put_number(u64::from(events.numbers[i]), b' ');
+    names.put_named(line, events, k);
+    line.put_number(u64::from(events.numbers[i + 2]), b' ');
+    line.put_number(u64::from(events.numbers[i + 3]), b'\n');
 }
 
-// The lines of n events.
-fn put_lines(
-    out: &mut [u8],
-    at: usize,
-    s: &[u8],
-    elements: &[u32; RECORDS],
-    attributes: &[u32; ATTRIBUTE_RECORDS],
-    total: usize,
-    numbers: &[u32; PROGRAM_ROOM],
-    n: usize,
-) -> usize
-    requires { (at + LINE * n ≤ length out.old) × Fits s.now elements.now × (n ≤ PROGRAM_EVENTS) × (total ≤ ATTCNT * element_limit) × FitsAttributes s.now attributes.now total }
-    ensures { Adds out.old at out.new result (lines_from s.now elements.now attributes.now total numbers.now n 0) }
+// The lines of all events.
+fn put_lines(line: &mut Line, names: Names, events: Events)
+    requires { line.old.at + LINE * events.count ≤ length line.old.out.now }
+    ensures same_reference { line.new.out.ghost_name ≡ line.old.out.ghost_name }
+    ensures adds { Adds line.old.out.now line.old.at line.new.out.now line.new.at
+        (lines_from names.entry.s.now names.entry.elements.now names.entry.attributes.now names.entry.total
+            events.entry.numbers.now events.entry.count 0) }
 {
-    let mut end = at;
-    let mut i = 0;
-    while i < n {
-        end = put_event(out, end, s, elements, attributes, total, numbers, i, n);
-        i += 1;
+    for k in 0..events.count {
+        put_event(line, names, events, k);
     }
-    end
 }
 
-// `events N`, and the lines of the events, by their numbers and by the numbers of the elements.
-pub fn put_events(
-    out: &mut [u8],
-    s: &[u8],
-    elements: &[u32; RECORDS],
-    attributes: &[u32; ATTRIBUTE_RECORDS],
-    total: usize,
-    numbers: &[u32; PROGRAM_ROOM],
-    n: usize,
-) -> usize
-    requires { (PROGRAM_TEXT ≤ length out.old) × Fits s.now elements.now × (n ≤ PROGRAM_EVENTS) × (total ≤ ATTCNT * element_limit) × FitsAttributes s.now attributes.now total }
-    ensures { (result ≤ length out.new) × (take result out.new ≡ text_of s.now elements.now attributes.now total numbers.now n) }
+// `events N`, and the lines of the events, at the start of out; where they end.
+pub fn put_events(out: &mut [u8], names: Names, events: Events) -> usize
+    requires { PROGRAM_TEXT ≤ length out.old }
+    ensures { (result ≤ length out.new) × (take result out.new ≡
+        text_of names.entry.s.now names.entry.elements.now names.entry.attributes.now names.entry.total
+            events.entry.numbers.now events.entry.count) }
 {
-    let a = line_text::put_bytes(out, 0, b"events ");
-    let b = line_text::put_number(out, a, n as u64, b'\n');
-    put_lines(out, b, s, elements, attributes, total, numbers, n)
+    let mut line = Line { out, at: 0 };
+    line.put_bytes(b"events ");
+    line.put_number(events.count as u64, b'\n');
+    put_lines(&mut line, names, events);
+    line.at
 }
 
-// `refused N`, in which input and at which position.
+// `refused N`, in which input and at which position, at the start of out; where it ends.
 pub fn put_refusal(out: &mut [u8], number: u32, place: &[u8], position: usize) -> usize
     requires { 50 + length place.now ≤ length out.old }
     ensures { (result ≤ length out.new) × (take result out.new ≡ refused_text number place.now position) }
 {
-    let a = line_text::put_bytes(out, 0, b"refused ");
-    let b = line_text::put_short(out, a, number, b' ');
-    let c = line_text::put_bytes(out, b, place);
-    line_text::put_number(out, c, position as u64, b'\n')
+    let mut line = Line { out, at: 0 };
+    line.put_bytes(b"refused ");
+    line.put_number(u64::from(number), b' ');
+    line.put_bytes(place);
+    line.put_number(position as u64, b'\n');
+    line.at
 }

@@ -1,5 +1,5 @@
 -- The names of events by the numbers of events, elements and attributes.
-use Rattle.std.specs.Prelude.{ℕ, zero, suc, ◌+◌, ◌-◌, ◌*◌, ◌≤◌, ◌<◌, ◌≡◌, true, false, ◌||◌, List, [], ◌∷◌, length, get_or, eqb, ltb}
+use Rattle.std.specs.Prelude.{ℕ, zero, suc, ◌+◌, ◌-◌, ◌*◌, ◌≤◌, ◌<◌, ◌≡◌, true, false, ◌||◌, Option, Some, None, List, [], ◌∷◌, length, get_or, eqb, ltb}
 use Rattle.rules.specs.Events.{event_width}
 use Rattle.rules.specs.Listing.{attribute_width}
 use Rattle.rules.specs.Printed.{upper, program_name_length}
@@ -44,6 +44,11 @@ record_within attributes (suc left) k e a =
 
 abbrev pub record_of : (attributes : List ℕ) → (total e a : ℕ) → ℕ
 record_of attributes total e a = record_within attributes total 0 e a
+
+-- What the search for it finds.
+abbrev pub RecordFound : (attributes : List ℕ) → (total e a : ℕ) → Option ℕ → Type 0
+RecordFound attributes total e a (Some k) = (k ≡ record_of attributes total e a) × (k < total)
+RecordFound attributes total e a None = record_of attributes total e a ≡ total
 
 -- The name of the attribute a of the element e, from the table of attributes; none if it is not there. As in the rules, 0 stands for the first.
 unfoldable pub attribute_in : (s attributes : List ℕ) → (total e a : ℕ) → List ℕ

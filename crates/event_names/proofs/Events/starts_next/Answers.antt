@@ -1,10 +1,6 @@
-use mathlib.Core.Path.{refl, ◌∙◌}
+use Rattle.std.proofs.Common.{◌∙◌, arith}
 use Rattle.event_names.specs.Naming.{starts_here, starts_behind, starts_none}
-use native.Mathlib.Omega.{arith}
-use Rattle.event_names.proofs.starts_next.Goals as goal
-
-pub loop-j-init : goal.loop-j-init
-loop-j-init c = refl
+use Rattle.event_names.proofs.Events.starts_next.Goals as goal
 
 pub returns-then-is_either : goal.returns-then-is_either
 returns-then-is_either c = starts_here _ _ _ (omega arith) c.is_either.ensures c.if-is_either.true ∙ c.loop-j.invariant

@@ -1,9 +1,0 @@
--- `event_names::is_either` meets its contract: each way by the test that led there.
-use borrow.Author.Tests.{eq-eqb, ne_eqb}
-use Rattle.event_names.proofs.is_either.Goals as goal
-
-pub returns-then-x-a : goal.returns-then-x-a
-returns-then-x-a c = rw (eq-eqb _ _ c.if-x-a.true)
-
-pub returns : goal.returns
-returns c = rw (ne_eqb _ _ c.if-x-a.false)
