@@ -73,20 +73,20 @@ module _ (s elements attributes : List ℕ) (total : ℕ) (numbers : List ℕ) (
           text_is = sym (append-nil (take r after)) ∙ rw none at l.text_is;
         }
 
--- The whole text of events.
-pub puts_events : {before first second after : List ℕ} {b c r : ℕ} (s elements attributes : List ℕ) (total : ℕ) (numbers : List ℕ) (n : ℕ) → Adds before 0 first b events_word
+-- The whole text of events: it is what the buffer is left with.
+pub puts_events : {before first second after left : List ℕ} {b c r : ℕ} (s elements attributes : List ℕ) (total : ℕ) (numbers : List ℕ) (n : ℕ) → Adds before 0 first b events_word
     → Adds first b second c (word (decimal n) RS) → Adds second c after r (lines_from s elements attributes total numbers n 0)
-    → (r ≤ length after) × (take r after ≡ text_of s elements attributes total numbers n)
+    → left ≡ after → (r ≤ length left) × (take r left ≡ text_of s elements attributes total numbers n)
 unfolding text_of
-puts_events s elements attributes total numbers n x y z =
+puts_events s elements attributes total numbers n x y z e =
     let all = puts_both x (puts_both y z) in
-    (omega (arith, all.within, all.same), all.text_is)
+    rw e (omega (arith, all.within, all.same), all.text_is)
 
--- The whole text of a refusal.
-pub puts_refusal : {before first second third after : List ℕ} {a b c r : ℕ} (number position : ℕ) (place : List ℕ) → Adds before 0 first a refused_word
+-- The whole text of a refusal, likewise.
+pub puts_refusal : {before first second third after left : List ℕ} {a b c r : ℕ} (number position : ℕ) (place : List ℕ) → Adds before 0 first a refused_word
     → Adds first a second b (word (decimal number) SPACE) → Adds second b third c place → Adds third c after r (word (decimal position) RS)
-    → (r ≤ length after) × (take r after ≡ refused_text number place position)
+    → left ≡ after → (r ≤ length left) × (take r left ≡ refused_text number place position)
 unfolding refused_text
-puts_refusal number position place x y z w =
+puts_refusal number position place x y z w e =
     let all = puts_both x (puts_both y (puts_both z w)) in
-    (omega (arith, all.within, all.same), all.text_is)
+    rw e (omega (arith, all.within, all.same), all.text_is)

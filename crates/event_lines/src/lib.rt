@@ -17,7 +17,7 @@ fn put_event(line: &mut Line, names: Names, events: Events, k: usize)
     ensures same_reference { line.new.out.ghost_name ≡ line.old.out.ghost_name }
     ensures adds { Adds line.old.out.now line.old.at line.new.out.now line.new.at
         (line_at names.entry.s.now names.entry.elements.now names.entry.attributes.now names.entry.total
-            events.entry.numbers.now k events.entry.count) }
+        events.entry.numbers.now k events.entry.count) }
     ensures short { line.new.at ≤ line.old.at + LINE }
 {
     let i = EVENT * k;
@@ -33,7 +33,7 @@ fn put_lines(line: &mut Line, names: Names, events: Events)
     ensures same_reference { line.new.out.ghost_name ≡ line.old.out.ghost_name }
     ensures adds { Adds line.old.out.now line.old.at line.new.out.now line.new.at
         (lines_from names.entry.s.now names.entry.elements.now names.entry.attributes.now names.entry.total
-            events.entry.numbers.now events.entry.count 0) }
+        events.entry.numbers.now events.entry.count 0) }
 {
     for k in 0..events.count {
         put_event(line, names, events, k);
@@ -45,7 +45,7 @@ pub fn put_events(out: &mut [u8], names: Names, events: Events) -> usize
     requires { PROGRAM_TEXT ≤ length out.old }
     ensures { (result ≤ length out.new) × (take result out.new ≡
         text_of names.entry.s.now names.entry.elements.now names.entry.attributes.now names.entry.total
-            events.entry.numbers.now events.entry.count) }
+        events.entry.numbers.now events.entry.count) }
 {
     let mut line = Line { out, at: 0 };
     line.put_bytes(b"events ");

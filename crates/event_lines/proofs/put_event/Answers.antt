@@ -1,9 +1,10 @@
--- `event_lines::put_event` puts the line of one event.
-use Rattle.std.proofs.Common.{arith}
+-- `put_event` puts the line of one event.
 use Rattle.event_lines.specs.LineByLine.{puts_line}
 use Rattle.event_lines.proofs.put_event.Goals as goal
 
-pub returns : goal.returns
-returns c =
-    let a = c.args in
-    (puts_line _ _ _ _ a.numbers.now a.k a.n c.put_short-a.ensures.0 c.put_named-b.ensures.0 c.put_short-c.ensures.0 c.put_short.ensures.0, omega arith)
+pub returns-clause-adds : goal.returns-clause-adds
+returns-clause-adds c =
+    let kind = rw c.from.ensures at c.put_number.ensures.adds in
+    let offset = rw c.from-2.ensures at c.put_number-2.ensures.adds in
+    let size = rw c.from-3.ensures at c.put_number-3.ensures.adds in
+    puts_line _ _ _ _ c.args.events.numbers.now c.args.k c.args.events.count kind c.put_named.ensures.adds offset size
