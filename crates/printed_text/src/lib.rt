@@ -8,6 +8,7 @@ ghost use Rattle.layout.specs.Sizes.{ATTRIBUTE_RECORDS, PROGRAM_EVENTS, PROGRAM_
 ghost use Rattle.inputs.specs.Checks.{settings_of};
 ghost use Rattle.printed_text.specs.Accepted.{Accepted, ListedIn, EventsPut};
 
+use event_names::{Events, Names};
 use inputs::Settings;
 use layout::{ATTRIBUTE_RECORDS, PROGRAM_NAME_LENGTH, PROGRAM_ROOM, RECORDS};
 use one_document::Answer;
@@ -46,7 +47,14 @@ fn put_events(out: &mut [u8], s: &[u8], numbers: &[u32; PROGRAM_ROOM], n: usize)
     type_judge::judge(given(), s, &mut elements);
     let mut attributes = [0u32; ATTRIBUTE_RECORDS];
     let total = listed(s, &mut attributes);
-    event_lines::put_events(out, s, &elements, &attributes, total, numbers, n)
+    let names = Names {
+        s,
+        elements: &elements,
+        attributes: &attributes,
+        total,
+    };
+    let events = Events { numbers, count: n };
+    event_lines::put_events(out, names, events)
 }
 
 // The text that is printed for a type file and a document, at the start of out.
