@@ -72,21 +72,6 @@ module _ (next : ℕ → ℕ → Bool) (p u : ℕ) (set : List Bool) (b : Beside
   pub beside_end : (n q : ℕ) → u ≡ n + 1 → q < POSITIONS → get_or set q false ≡ clash_in next n p q
   beside_end n q e h = let z : u - 1 ≡ n = omega arith in rw z at (b.has (omega arith) q h)
 
--- The row is copied below i.
-pub record Copied (table : List ℕ) (u : ℕ) (row : List ℕ) (i : ℕ) : Type 0 where
-  pub len : length row ≡ POSITIONS
-  pub same : (q : ℕ) → q < i → get_or row q 0 ≡ get_or table (u * MODEL_ROW + q) 0
-
-pub copied_one : (table : List ℕ) (u : ℕ) (row : List ℕ) (i v : ℕ) → Copied table u row i → i < POSITIONS → v ≡ get_or table (u * MODEL_ROW + i) 0 → Copied table u (set row i v) (i + 1)
-copied_one table u row i v a h e =
-    record {
-      len = length-set row i v ∙ a.len;
-      same =
-          below_more (λ (q : ℕ). get_or (set row i v) q 0 ≡ get_or table (u * MODEL_ROW + q) 0) i
-          (λ q l. get_or-set_other row i q v 0 (omega arith) ∙ a.same q l)
-          (get_or-set_same row i v 0 (omega (arith, a.len)) ∙ e);
-    }
-
 -- The numbers from q on are still to be searched for the first that passes, and those before do not pass: `end` is behind the last.
 module _ (f : ℕ → Bool) (end : ℕ) where
   abbrev left : ℕ → ℕ

@@ -24,11 +24,7 @@ fn next_after(table: &[u8; MODEL], u: usize) -> [u8; POSITIONS]
     ensures { (q : ℕ) → q < POSITIONS → get_or result q 0 ≡ get_or table.now (u * MODEL_ROW + q) 0 }
 {
     let mut next = [0u8; POSITIONS];
-    let mut q = 0;
-    while q < POSITIONS {
-        next[q] = table[u * MODEL_ROW + q];
-        q += 1;
-    }
+    next.copy_from_slice(&table[u * MODEL_ROW..u * MODEL_ROW + POSITIONS]);
     next
 }
 
@@ -37,12 +33,10 @@ fn with_next(next: [u8; POSITIONS], set: [bool; POSITIONS]) -> [bool; POSITIONS]
     ensures { (q : ℕ) → q < POSITIONS → get_or result q false ≡ get_or set q false || is_next (get_or next q 0) }
 {
     let mut more = set;
-    let mut q = 0;
-    while q < POSITIONS {
+    for q in 0..POSITIONS {
         if next[q] == 1 {
             more[q] = true;
         }
-        q += 1;
     }
     more
 }
@@ -53,14 +47,11 @@ fn beside(table: &[u8; MODEL], n: usize, p: usize) -> [bool; POSITIONS]
     ensures { (q : ℕ) → q < POSITIONS → get_or result q false ≡ clash_in (row_in table.now) n p q }
 {
     let mut set = [false; POSITIONS];
-    let mut u = 0;
-    while u <= n {
+    for u in 0..n + 1 {
         if table[u * MODEL_ROW + p] == 1 {
-            let next = next_after(table, u);
-            let more = with_next(next, set);
+            let more = with_next(next_after(table, u), set);
             set = more;
         }
-        u += 1;
     }
     set
 }
@@ -69,10 +60,7 @@ fn beside(table: &[u8; MODEL], n: usize, p: usize) -> [bool; POSITIONS]
 fn is_fault(table: &[u8; MODEL], code: usize, and: bool, p: usize, q: usize) -> bool
     ensures { (and ≡ false → result ≡ true) × (and ≡ true → Told table.now p q code result) }
 {
-    if !and {
-        return true;
-    }
-    model_code::clash(table, code, p, q)
+    !and || model_code::clash(table, code, p, q)
 }
 
 // The first place after p that is at fault with it.

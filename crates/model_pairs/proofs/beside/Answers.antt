@@ -14,7 +14,7 @@ loop-u-preserved c =
     let so_far = c.loop-u.invariant.1 in
     elim c.if-table-u-eq1.branch [
       | then-table-u-eq1 w ↦
-          (omega arith, rw w.set-is (beside_row _ _ _ _ so_far w.next_after-next.result _ (eq-eqb _ _ w.if-table-u-eq1.true) (λ q h. ap is_next (w.next_after-next.ensures q h)) w.with_next-more.ensures))
+          (omega arith, rw w.set-is (beside_row _ _ _ _ so_far w.next_after.result _ (eq-eqb _ _ w.if-table-u-eq1.true) (λ q h. ap is_next (w.next_after.ensures q h)) w.with_next-more.ensures))
       | else-table-u-eq1 w ↦ (omega arith, rw w.set-is (beside_skip _ _ _ _ so_far (ne_eqb _ _ w.if-table-u-eq1.false)))
     ]
 

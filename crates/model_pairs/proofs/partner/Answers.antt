@@ -1,76 +1,62 @@
-use Rattle.std.proofs.Common.{◌+◌, refl, sym, ◌∙◌, inl, inr, arith}
+use Rattle.std.proofs.Common.{ℕ, Bool, ◌+◌, refl, sym, ap, ◌∙◌, arith}
 use Rattle.same_names.specs.Keys.{unshared}
-use Rattle.model_pairs.specs.Seeks.{seeks_start, seeks_on, seeks_past, seeks_found, seeks_none, apart, at_fault, not_fault}
+use Rattle.model_pairs.specs.Rows.{Tells}
+use Rattle.model_pairs.specs.Seeks.{Seeks, seeks_start, seeks_on, seeks_past, seeks_found, seeks_none, apart, at_fault, not_fault}
 use Rattle.model_pairs.proofs.partner.Goals as goal
-use Rattle.model_pairs.proofs.partner.Goals.{then-near-q+else-is_fault, else-near-q}
+use Rattle.model_pairs.proofs.partner.Goals.{After-branch-q-in-loop-q, else-near-q-via-then-near-q+else-is_fault, else-near-q-via-else-near-q}
 
-pub returns-then-not-shares_key : goal.returns-then-not-shares_key
-returns-then-not-shares_key c =
+pub returns-then-not-shares_key-clause-by_index_2 : goal.returns-then-not-shares_key-clause-by_index_2
+returns-then-not-shares_key-clause-by_index_2 c F t =
     let x = c.args in
     let pre = c.requires in
-    record {
-      by_index_2 =
-          λ F t.
-          seeks_none _ _ _ _ _ _
-          (seeks_on x.s.now x.names.now F x.n x.p (x.p + 1) (x.n + 1) (seeks_start _ _ _ _ _ pre.n_bound.2) (omega arith) (omega arith)
-          (unshared x.s.now x.names.now x.keys.now x.n x.p pre.n_bound.1 pre.n_bound.2 pre.by_index (sym c.shares_key.ensures ∙ c.if-not-shares_key.true)))
-          (omega arith);
-      fact = inl refl;
-    }
-
-pub same_name-q-requires : goal.same_name-q-requires
-same_name-q-requires c = record { n_bound = omega arith; by_index = c.requires.by_index }
+    seeks_none _ _ _ _ _ _
+    (seeks_on x.s.now x.names.now F x.n x.p (x.p + 1) (x.n + 1) (seeks_start _ _ _ _ _ pre.n_bound.2) (omega arith) (omega arith)
+    (unshared x.s.now x.names.now x.keys.now x.n x.p pre.n_bound.1 pre.n_bound.2 pre.by_index (sym c.shares_key.ensures ∙ c.if-not-shares_key.true)))
+    (omega arith)
 
 -- The search begins at the first place with the name of `p`.
-pub returns-then-n-q : goal.returns-then-n-q
-returns-then-n-q c =
-    let found = c.same_name-q.ensures in
-    record {
-      by_index_2 = λ F t. seeks_none _ _ _ _ _ _ (seeks_on _ _ _ _ _ _ _ (seeks_start _ _ _ _ _ c.requires.n_bound.2) found.0 found.1 found.2) (omega arith);
-      fact = inl refl;
-    }
+pub returns-in_err-q-clause-by_index_2 : goal.returns-in_err-q-clause-by_index_2
+returns-in_err-q-clause-by_index_2 c F t =
+    rw c.from_residual.ensures
+    (seeks_none _ _ _ _ _ _ (seeks_on _ _ _ _ _ _ (c.args.n + 1) (seeks_start _ _ _ _ _ c.requires.n_bound.2) (omega arith) (omega arith) (λ x a b. c.in_err-q.ensures x a (omega arith))) (omega arith))
 
 pub loop-q-init : goal.loop-q-init
 loop-q-init c =
-    let found = c.same_name-q.ensures in
-    (λ F t. seeks_on _ _ _ _ _ _ _ (seeks_start _ _ _ _ _ c.requires.n_bound.2) found.0 found.1 found.2, omega arith, found.1, found.3, c.requires.n_bound.1, c.requires.n_bound.0)
+    let found = c.in_ok-q.ensures in
+    (λ F t. seeks_on _ _ _ _ _ _ _ (seeks_start _ _ _ _ _ c.requires.n_bound.2) found.0 (omega arith) found.2, omega arith, found.1, found.3, c.requires.n_bound.1, c.requires.n_bound.0)
 
-pub returns-then-is_fault : goal.returns-then-is_fault
-returns-then-is_fault c =
+pub returns-then-is_fault-clause-by_index_2 : goal.returns-then-is_fault-clause-by_index_2
+returns-then-is_fault-clause-by_index_2 c F t =
     let inv = c.loop-q.invariant in
     let told = c.is_fault.ensures in
-    let low = c.loop-q-test.true in
-    record {
-      by_index_2 =
-          λ F t.
-          seeks_found _ _ _ _ _ _ (inv.0 F t) (omega arith)
-          (at_fault _ _ _ _ _ _ F t _ _ inv.4 inv.1 low _ (c.beside-near.ensures _ (omega arith)) c.if-near-q.true _ told.0 told.1 (inv.3 low) c.if-is_fault.true);
-      fact = inr (inv.1, low);
-    }
+    seeks_found _ _ _ _ _ _ (inv.0 F t) (omega arith)
+    (at_fault _ _ _ _ _ _ F t _ _ inv.4 inv.1 inv.2 _ (c.beside-near.ensures _ (omega arith)) c.if-near-q.true _ told.0 told.1 inv.3 c.if-is_fault.true)
 
-pub same_name-q-requires-in-loop-q : goal.same_name-q-requires-in-loop-q
-same_name-q-requires-in-loop-q c = record { n_bound = omega arith; by_index = c.requires.by_index }
+-- The place `q` is not at fault with `p`, and the search goes on behind it.
+past : (c : After-branch-q-in-loop-q) (F : ℕ → ℕ → Bool) → Tells c.args.table.now c.args.n c.args.code c.args.and F → Seeks c.args.s.now c.args.names.now F c.args.n c.args.p (c.loop-q.q + 1)
+past c F t =
+    let inv = c.loop-q.invariant in
+    let nearby = c.beside-near.ensures c.loop-q.q (omega arith) in
+    seeks_past _ _ _ _ _ _ (inv.0 F t) inv.2
+    (elim c.else-near-q.branch [
+      | else-near-q-via-then-near-q+else-is_fault w ↦ not_fault _ _ _ _ _ _ F t _ _ inv.4 inv.1 inv.2 _ nearby w.if-near-q.true _ w.is_fault.ensures.0 w.is_fault.ensures.1 w.if-is_fault.false
+      | else-near-q-via-else-near-q w ↦ apart _ _ _ _ _ _ F t _ _ inv.4 inv.1 inv.2 _ nearby w.if-near-q.false
+    ])
+
+pub returns-in_err-q-2-clause-by_index_2 : goal.returns-in_err-q-2-clause-by_index_2
+returns-in_err-q-2-clause-by_index_2 c F t =
+    let inv = c.loop-q.invariant in
+    rw c.from_residual-in_err-q-2.ensures
+    (seeks_none _ _ _ _ _ _ (seeks_on _ _ _ _ _ _ (c.args.n + 1) (past (goal.at.returns-in_err-q-2-clause-by_index_2 c).After-branch-q-in-loop-q F t) (omega arith) (omega arith) (λ x a b. c.in_err-q-2.ensures x a (omega arith))) (omega arith))
 
 pub loop-q-preserved : goal.loop-q-preserved
 loop-q-preserved c =
-    let found = c.same_name-q-in-loop-q.ensures in
-    let inv = c.loop-q.invariant in
-    let low = c.loop-q-test.true in
-    let nearby = c.beside-near.ensures c.loop-q.q (omega arith) in (
-      λ F t.
-          seeks_on _ _ _ _ _ _ _
-          (seeks_past _ _ _ _ _ _ (inv.0 F t) (omega arith)
-          (elim c.if-near-q.branch [
-            | then-near-q+else-is_fault w ↦ not_fault _ _ _ _ _ _ F t _ _ inv.4 inv.1 low _ nearby w.if-near-q.true _ w.is_fault.ensures.0 w.is_fault.ensures.1 w.if-is_fault.false
-            | else-near-q w ↦ apart _ _ _ _ _ _ F t _ _ inv.4 inv.1 low _ nearby w.if-near-q.false
-          ]))
-          found.0 found.1 found.2,
+    let found = c.in_ok-q-2.ensures in
+    let inv = c.loop-q.invariant in (
+      λ F t. seeks_on _ _ _ _ _ _ _ (past (goal.at.loop-q-preserved c).After-branch-q-in-loop-q F t) found.0 (omega arith) found.2,
       omega arith,
       found.1,
       found.3,
       inv.4,
       inv.5,
     )
-
-pub returns : goal.returns
-returns c = record { by_index_2 = λ F t. seeks_none _ _ _ _ _ _ (c.loop-q.invariant.0 F t) (omega arith); fact = inl refl }

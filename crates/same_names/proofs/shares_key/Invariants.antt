@@ -7,5 +7,3 @@ use Rattle.same_names.proofs.shares_key.Given as goal
 abbrev pub invariant-loop-x : goal.invariant-loop-x
 invariant-loop-x l = Shares l.keys (get_or l.keys l.p 0) l.n l.p l.some l.x
 
-abbrev pub decreases-loop-x : goal.decreases-loop-x
-decreases-loop-x l = l.n + 1 - l.x
