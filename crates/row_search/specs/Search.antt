@@ -85,6 +85,10 @@ module _ (Says : ℕ → Bool → Type 0) (places : List ℕ) (e n : ℕ) where
                 };
           }
 
+-- What is said of each place may be said otherwise.
+pub largest_said : {Told Says : ℕ → Bool → Type 0} {places : List ℕ} {e n r : ℕ} → ((q : ℕ) (b : Bool) → q ≤ n → Told q b → Says q b) → Largest Told places e n r → Largest Says places e n r
+largest_said told w = record { small = w.small; finds = λ f next linked says. w.finds f next linked (λ q b l m t. says q b l m (told q b m t)) }
+
 -- A number that is raised is lowered before the search.
 module _ (Says : ℕ → Bool → Type 0) (places : List ℕ) (e p : ℕ) where
   pub raised_low : p < RAISE → LargestRaised Says places e p 0
