@@ -116,10 +116,6 @@ is_start (got data_byte) = false
 pub record NoStart (x : Reading Piece) : Type 0 where
   no : is_start x ≡ false
 
-pub end_no_start : (r : Reading Tag) → NoStart (as_end_tag r)
-end_no_start (refused n k) = record { no = refl }
-end_no_start (got t) = record { no = refl }
-
 skipped_no_start : (r : Reading ℕ) → NoStart (as_skipped r)
 skipped_no_start (refused n k) = record { no = refl }
 skipped_no_start (got e) = record { no = refl }

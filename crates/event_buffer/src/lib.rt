@@ -1,13 +1,14 @@
 // The lent buffers: an event is written behind those before.
 #![tactic(auto)]
 
-ghost use Rattle.std.specs.Prelude.{◌≡◌, ◌∷◌, [], ◌+◌, ◌*◌, ◌<◌};
+ghost use Rattle.std.specs.Prelude.{◌≡◌, ◌∷◌, [], ◌++◌, ◌+◌, ◌*◌, ◌≤◌, ◌<◌, length, take, drop};
 ghost use Rattle.rules.specs.Lent.{bytes_of};
-ghost use Rattle.rules.specs.Events.{event_width};
-ghost use Rattle.numbers.specs.Written.{written};
 ghost use Rattle.event_buffer.specs.Buffers.{noted, Puts, PutsOver};
 
 use layout::{AttributeNo, EVENT, ElementNo, NUMBER, Place};
+
+// An event as bytes.
+const EVENT_BYTES: usize = NUMBER * EVENT;
 
 // What an event says.
 #[derive(Clone, Copy, Debug, PartialEq, Eq)]
@@ -22,26 +23,25 @@ pub enum Kind {
     DefaultedAttribute = 8,
 }
 
-// The numbers of an event, after n events, if they fit.
-fn note_numbers(buffer: &mut [u32], n: usize, event: &[u32; EVENT])
-    requires { n < 4294967296 }
-    ensures { buffer.new ≡ written buffer.old (event_width * n) event.now }
+// What stands for an event, after what stands for n events, if it fits.
+fn note<T: Copy, const N: usize>(buffer: &mut [T], n: usize, event: &[T; N])
+    requires { N * n + N < 18446744073709551616 }
+    ensures fits { N * n + N ≤ length buffer.old → buffer.new ≡ take (N * n) buffer.old ++ (event.now ++ drop (N * n + N) buffer.old) }
+    ensures full { length buffer.old < N * n + N → buffer.new ≡ buffer.old }
 {
-    let i = EVENT * n;
-    if i + EVENT <= buffer.len() {
-        numbers::put_numbers(&mut buffer[i..], event, EVENT);
+    let i = N * n;
+    if i + N <= buffer.len() {
+        buffer[i..i + N].copy_from_slice(event);
     }
 }
 
-// The numbers of an event as four bytes each, low byte first, after n events, if they fit.
-fn note_bytes(buffer: &mut [u8], n: usize, event: &[u32; EVENT])
-    requires { n < 4294967296 }
-    ensures { buffer.new ≡ written buffer.old (4 * event_width * n) (bytes_of event.now) }
+// The numbers of an event as four bytes each, low byte first.
+fn as_bytes(event: &[u32; EVENT]) -> [u8; EVENT_BYTES]
+    ensures { result ≡ bytes_of event.now }
 {
-    let i = NUMBER * EVENT * n;
-    if i + NUMBER * EVENT <= buffer.len() {
-        numbers::put_bytes(&mut buffer[i..], event, EVENT);
-    }
+    let mut bytes = [0; EVENT_BYTES];
+    numbers::put_bytes(&mut bytes, event, EVENT);
+    bytes
 }
 
 // An event, after n others, to each buffer that it fits whole; where n + 1 are there it goes over the last of them. What a buffer holds that is too small for all events is not decided;
@@ -60,9 +60,15 @@ pub fn put_event(
     ensures { (result ≡ n + 1) × Puts numbers.old bytes.old n (noted kind element.0 at size place.0 ∷ []) numbers.new bytes.new ×
         PutsOver numbers.old bytes.old n (noted kind element.0 at size place.0) numbers.new bytes.new }
 {
-    let event = [kind, element.0 as u32, at as u32, size as u32, place.0 as u32];
-    note_numbers(numbers, n, &event);
-    note_bytes(bytes, n, &event);
+    let event = [
+        kind,
+        element.0 as u32,
+        at as u32,
+        size as u32,
+        place.0 as u32,
+    ];
+    note(numbers, n, &event);
+    note(bytes, n, &as_bytes(&event));
     n + 1
 }
 
@@ -80,5 +86,14 @@ pub fn put_attribute(
     ensures { (result ≡ n + 1) × Puts numbers.old bytes.old n (noted kind attribute.0 at size 0 ∷ []) numbers.new bytes.new }
 {
     // The number of an attribute stands where that of an element does.
-    put_event(numbers, bytes, n, kind, ElementNo(attribute.0), at, size, Place(0))
+    put_event(
+        numbers,
+        bytes,
+        n,
+        kind,
+        ElementNo(attribute.0),
+        at,
+        size,
+        Place(0),
+    )
 }
