@@ -1,5 +1,5 @@
 -- The declaration of an element that is recorded, read again.
-use Rattle.std.specs.Prelude.{ℕ, zero, suc, ◌+◌, ◌-◌, ◌*◌, ◌≤◌, ◌<◌, ◌≡◌, refl, cond, List, [], ◌∷◌, ◌++◌, length, get_or, take}
+use Rattle.std.specs.Prelude.{ℕ, zero, suc, ◌+◌, ◌-◌, ◌*◌, ◌≤◌, ◌<◌, ◌≡◌, refl, cond, List, [], ◌∷◌, ◌++◌, length, get_or, take, Result, Ok, Err}
 use Rattle.std.proofs.Common.{sym, ap, subst, ◌∙◌, not-suc-le-zero, le_of_suc-le-suc, arith, length-take-le, take-take, get_or-append-add, get_or-take}
 use Rattle.std.proofs.Math.ListN.{get_or-append}
 use Rattle.std.proofs.Math.Seq.{take-append-add}
@@ -8,8 +8,8 @@ use Rattle.rules.specs.TypeFile.{Content, empty, model, Element, Declared, eleme
 use Rattle.rules.specs.Judge.{content_numbers, records, record_width}
 use Rattle.rules.specs.Elements.{element_at, content_of, has_model}
 use Rattle.element_reader.specs.Keeps.{Recorded, KeepsContent, MeetsElement}
-use Rattle.element_reader.specs.declared.ElementRead.{ElementRead}
-use Rattle.element_reader.specs.declared.ElementRead.TheVariants as element_read
+use Rattle.text.specs.declared.Fault.{Fault}
+use Rattle.element_reader.specs.declared as declared
 use Rattle.rules_laws.specs.Declarations.{bare, bares, bares_length}
 use Rattle.type_laws.specs.Made.{element_at_next}
 use Rattle.type_laws.specs.Again.{type_file_again}
@@ -93,19 +93,19 @@ last_same : (es : List Element) (x y : Element) → es ++ x ∷ [] ≡ es ++ y �
 last_same es x y q = sym (element_at_next es x []) ∙ ap (λ (l : List Element). element_at l (length es)) q ∙ element_at_next es y []
 
 -- The declaration was read, and its names and its table keep the content.
-abbrev pub ReadsAs : (names table : List ℕ) → Content → ElementRead → Type 0
-ReadsAs names table c (element_read.Read d) = KeepsContent names table d.kind d.tokens d.places d.code d.and d.repeated c
-ReadsAs names table c (element_read.Refused f) = ⊥
+abbrev pub ReadsAs : (names table : List ℕ) → Content → Result declared.Element.Element Fault → Type 0
+ReadsAs names table c (Ok d) = KeepsContent names table d.model c
+ReadsAs names table c (Err f) = ⊥
 
 module _ (long : ℕ) (s elements : List ℕ) (es : List Element) (read : type_file long s ≡ got es) (r : Recorded elements es) (e : ℕ) (from : 1 ≤ e) (to : e ≤ length es) (names table : List ℕ) where
-  reads_declared : (at : ℕ) (fs : List Element) (d : Declared) → d.elements ≡ fs ++ bare (element_at es (e - 1)) ∷ [] → (x : ElementRead) → MeetsElement (length s) at names table fs x (got d)
+  reads_declared : (at : ℕ) (fs : List Element) (d : Declared) → d.elements ≡ fs ++ bare (element_at es (e - 1)) ∷ [] → (x : Result declared.Element.Element Fault) → MeetsElement (length s) at names table fs x (got d)
       → ReadsAs names table (content_of es e) x
-  reads_declared at fs d q (element_read.Read y) m =
+  reads_declared at fs d q (Ok y) m =
       let same : m.element ≡ bare (element_at es (e - 1)) = last_same fs _ _ (sym m.grows ∙ q) in
-      subst (KeepsContent names table y.kind y.tokens y.places y.code y.and y.repeated) (ap (λ (z : Element). z.content) same ∙ sym (content_at es e from)) m.content
-  reads_declared at fs d q (element_read.Refused f) m = m
+      subst (KeepsContent names table y.model) (ap (λ (z : Element). z.content) same ∙ sym (content_at es e from)) m.content
+  reads_declared at fs d q (Err f) m = m
 
-  pub reads_again : (at : ℕ) (x : ElementRead) → at ≡ get_or elements (record_width * (e - 1)) 0
+  pub reads_again : (at : ℕ) (x : Result declared.Element.Element Fault) → at ≡ get_or elements (record_width * (e - 1)) 0
       → ((fs : List Element) → length fs ≡ e - 1 → Recorded elements fs → MeetsElement (length s) at names table fs x (element long s at fs)) → ReadsAs names table (content_of es e) x
   reads_again at x q m =
       let k : ℕ = e - 1 in

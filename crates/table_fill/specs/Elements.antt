@@ -1,5 +1,5 @@
 -- One element of an indexed type: what its record and its declaration, read again, put into the tables.
-use Rattle.std.specs.Prelude.{ℕ, zero, suc, ◌+◌, ◌-◌, ◌*◌, ◌≤◌, ◌<◌, ◌≡◌, refl, Bool, true, false, not, ◌&&◌, cond, List, [], ◌∷◌, length, get_or, set, eqb}
+use Rattle.std.specs.Prelude.{ℕ, zero, suc, ◌+◌, ◌-◌, ◌*◌, ◌≤◌, ◌<◌, ◌≡◌, refl, Bool, true, false, not, ◌&&◌, cond, List, [], ◌∷◌, length, get_or, set, eqb, Option, Some, None, Result, Ok, Err}
 use Rattle.std.proofs.Common.{sym, ap, subst, ◌∙◌, true≢false, inl, inr, not-suc-le-zero, le_of_suc-le-suc, arith, length-set, get_or-set_same, get_or-set_other}
 use Rattle.std.proofs.Math.Bool.{and-true, and-false}
 use Rattle.basic_laws.specs.Numbers.{bit_most}
@@ -20,8 +20,7 @@ use Rattle.model_names.specs.Shared.{place_at_places_of}
 use Rattle.text.specs.declared.Fault.{Fault}
 use Rattle.element_reader.specs.Keeps.{Recorded, KeepsModel, KeepsContent, MeetsElement}
 use Rattle.element_reader.specs.declared as declared
-use Rattle.element_reader.specs.declared.ElementRead.{ElementRead}
-use Rattle.element_reader.specs.declared.ElementRead.TheVariants as element_read
+use Rattle.element_content.specs.declared.Model.{Model}
 use Rattle.rules_laws.specs.Offered.{offered_range}
 use Rattle.rules_laws.specs.Within.{All, more, PlaceIn, ContentIn}
 use Rattle.rules.specs.Bytes.{GRPGTCNT, element_limit, type_limit}
@@ -143,72 +142,64 @@ module _ (long : ℕ) (s : List ℕ) (es : List Element) (elements lists index R
 
   -- The declaration, read again
 
-  module _ (names table : List ℕ) (at : ℕ) (x : ElementRead) (stands : at ≡ get_or elements (record_width * (e - 1)) 0)
+  module _ (names table : List ℕ) (at : ℕ) (x : Result declared.Element.Element Fault) (stands : at ≡ get_or elements (record_width * (e - 1)) 0)
       (met : (fs : List Element) → length fs ≡ e - 1 → Recorded elements fs → MeetsElement (length s) at names table fs x (element long s at fs)) where
     again : ReadsAs names table (content_of es e) x
     again = reads_again long s elements es due.accepted.elements due.indexed.recorded e due.from due.to names table at x stands met
 
-    pub not_refused : (f : Fault) → x ≡ element_read.Refused f → ⊥
+    pub not_refused : (f : Fault) → x ≡ Err f → ⊥
     not_refused f q = rw q at again
 
-    module _ (d : declared.Element.Element) (is : x ≡ element_read.Read d) where
-      keeps : KeepsContent names table d.kind d.tokens d.places d.code d.and d.repeated (content_of es e)
+    module _ (d : declared.Element.Element) (is : x ≡ Ok d) where
+      keeps : KeepsContent names table d.model (content_of es e)
       keeps = rw is at again
 
-      pub places_few : (d.kind ≡ 0 → ⊥) → d.places ≤ GRPGTCNT
-      places_few z = content_places names table d.kind d.tokens d.places d.code d.and d.repeated (content_of es e) keeps z
-
-      names_fit : (d.kind ≡ 0 → ⊥) → NamesFit s names d.places
-      names_fit z = by_content (content_of es e) keeps (type_file_content long s es due.accepted.elements e) (type_file_places_short long s es due.accepted.elements e)
-        where
-          by_content : (y : Content) → KeepsContent names table d.kind d.tokens d.places d.code d.and d.repeated y → ContentIn s y → ShortIn long y → NamesFit s names d.places
-          by_content empty w y u p a b = absurd (z w.0)
-          by_content (model g ps n) w y u p a b =
-              let m = w.3 in
-              subst (IsName s) (place_at_places_of names d.places (p - 1) (omega arith))
-              (rw m.names_hold (name_at_lem s long (offered_range _ due.accepted.legible.offered).1 ps y.places u (p - 1) (omega (arith, m.counted))))
-
       -- It is a model.
-      is_model : (y : Content) → KeepsContent names table d.kind d.tokens d.places d.code d.and d.repeated y → (d.kind ≡ 0 → ⊥)
-          → (g : Group) × (ps : List Place) × (n : ℕ) × (model g ps n ≡ y) × KeepsModel names table d.places d.code d.and d.repeated g ps
-      is_model empty w z = absurd (z w.0)
-      is_model (model g ps n) w z = (g, ps, n, refl, w.3)
+      module _ (m : Model) (has : d.model ≡ Some m) where
+        keeps_model : KeepsContent names table (Some m) (content_of es e)
+        keeps_model = subst (λ (o : Option Model). KeepsContent names table o (content_of es e)) has keeps
 
-      pub rows_due : (d.kind ≡ 0 → ⊥) → RowsDue table e d.places R
-      rows_due z =
-          let (g, ps, n, q, m) = is_model (content_of es e) keeps z in
-          record {
-            element = few;
-            few = m.places_in_lem;
-            len = due.filled.rows_len;
-            required = λ u l. omega (arith, m.says.required u (omega (arith, m.sized)), required_size g m.numbered u, m.sized, m.places_in_lem);
-          }
+        pub places_few : m.places ≤ GRPGTCNT
+        places_few = content_places names table m (content_of es e) keeps_model
+
+        names_fit : NamesFit s names m.places
+        names_fit = by_content (content_of es e) keeps_model (type_file_content long s es due.accepted.elements e) (type_file_places_short long s es due.accepted.elements e)
+          where
+            by_content : (y : Content) → KeepsContent names table (Some m) y → ContentIn s y → ShortIn long y → NamesFit s names m.places
+            by_content empty w y u p a b = absurd w
+            by_content (model g ps n) w y u p a b =
+                let q = w.2 in
+                subst (IsName s) (place_at_places_of names m.places (p - 1) (omega arith))
+                (rw q.names_hold (name_at_lem s long (offered_range _ due.accepted.legible.offered).1 ps y.places u (p - 1) (omega (arith, q.counted))))
+
+        is_model : (y : Content) → KeepsContent names table (Some m) y → (g : Group) × (ps : List Place) × (n : ℕ) × (model g ps n ≡ y) × KeepsModel names table m g ps
+        is_model empty w = absurd w
+        is_model (model g ps n) w = (g, ps, n, refl, w.2)
+
+        pub rows_due : RowsDue table e m.places R
+        rows_due =
+            let (g, ps, n, q, k) = is_model (content_of es e) keeps_model in
+            record {
+              element = few;
+              few = k.places_in_lem;
+              len = due.filled.rows_len;
+              required = λ u l. omega (arith, k.says.required u (omega (arith, k.sized)), required_size g k.numbered u, k.sized, k.places_in_lem);
+            }
 
       -- With the facts of the record put.
       module _ (G : List ℕ) (put : FactsPut elements lists e F G) where
         tags : TagsPut (element_at es k) (content_of es e) e F G
         tags = tags_put G put
 
-        pub places_due : (d.kind ≡ 0 → ⊥) → PlacesDue s names P G e d.places
-        places_due z =
-            record {
-              element = few;
-              few = places_few z;
-              fit = names_fit z;
-              places_len = due.filled.places_len;
-              facts_len = tags.len;
-              blank = λ j a b. tags.under j b ∙ due.filled.facts_rest j a;
-            }
-
         -- It is EMPTY.
-        is_empty : (y : Content) → KeepsContent names table d.kind d.tokens d.places d.code d.and d.repeated y → d.kind ≡ 0 → empty ≡ y
-        is_empty empty w z = refl
-        is_empty (model g ps n) w z = absurd (omega (arith, w.0))
+        is_empty : (y : Content) → KeepsContent names table None y → empty ≡ y
+        is_empty empty w = refl
+        is_empty (model g ps n) w = absurd w
 
-        pub element_empty : d.kind ≡ 0 → (i : ℕ) → i ≡ row_at e 0 → Filled s es (set R i 1) P G M (e + 1)
+        pub element_empty : d.model ≡ None → (i : ℕ) → i ≡ row_at e 0 → Filled s es (set R i 1) P G M (e + 1)
         element_empty z i at =
             let h = due.filled in
-            let q = is_empty (content_of es e) keeps z in
+            let q = is_empty (content_of es e) (subst (λ (o : Option Model). KeepsContent names table o (content_of es e)) z keeps) in
             rw at (filled_more long s es due.accepted.elements e false R P F M h (set R (row_at e 0) 1) G P G G M
             (subst (λ (y : Content). RowsFor y false e R (set R (row_at e 0) 1)) q (rows_empty e R few h.rows_len h.rows_rest))
             tags
@@ -218,41 +209,53 @@ module _ (long : ℕ) (s : List ℕ) (es : List Element) (elements lists index R
             (members_same s (content_of es e) e M h.lent (subst PlainIn q tt)))
 
         -- A model, without "&" or with.
-        by_rows : (d.kind ≡ 0 → ⊥) → (b : Bool) (R' P' H F' M' : List ℕ) → RowsPut table e (cond b RAISE 0) R R' (d.places + 1) → PlacesPut s es (places_of names d.places) e P G P' H (d.places + 1)
-            → LargestPut b e H F' CONTENTS → MembersPut s (content_of es e) b e M M' → Filled s es R' P' F' M' (e + 1)
-        by_rows z b R' P' H F' M' r w f put =
-            let (g, ps, n, q, m) = is_model (content_of es e) keeps z in
-            filled_more long s es due.accepted.elements e b R P F M due.filled R' G P' H F' M'
-            (subst (λ (y : Content). RowsFor y b e R R') q (rows_model table g ps n e b R R' m.says (m.sized ∙ m.counted) (omega (arith, m.sized, m.places_in_lem)) (rw (← m.counted) r)))
-            tags
-            (subst (λ (y : Content). PlacesPut s es (places_in y) e P G P' H (length (places_in y) + 1)) q (rw (← m.counted, ← m.names_hold) w))
-            f
-            put
+        module _ (m : Model) (has : d.model ≡ Some m) where
+          pub places_due : PlacesDue s names P G e m.places
+          places_due =
+              record {
+                element = few;
+                few = places_few m has;
+                fit = names_fit m has;
+                places_len = due.filled.places_len;
+                facts_len = tags.len;
+                blank = λ j a b. tags.under j b ∙ due.filled.facts_rest j a;
+              }
 
-        pub element_plain : (d.kind ≡ 0 → ⊥) → d.and ≡ 0 → (R' P' F' : List ℕ) → RowsPut table e 0 R R' (d.places + 1) → PlacesPut s es (places_of names d.places) e P G P' F' (d.places + 1)
-            → Filled s es R' P' F' M (e + 1)
-        element_plain z none R' P' F' r w =
-            let (g, ps, n, q, m) = is_model (content_of es e) keeps z in
-            by_rows z false R' P' F' F' M r w (largest_same e F' w.facts_len) (members_same s (content_of es e) e M due.filled.lent (subst PlainIn q (m.plain none)))
+          by_rows : (b : Bool) (R' P' H F' M' : List ℕ) → RowsPut table e (cond b RAISE 0) R R' (m.places + 1) → PlacesPut s es (places_of names m.places) e P G P' H (m.places + 1)
+              → LargestPut b e H F' CONTENTS → MembersPut s (content_of es e) b e M M' → Filled s es R' P' F' M' (e + 1)
+          by_rows b R' P' H F' M' r w f put =
+              let (g, ps, n, q, k) = is_model m has (content_of es e) (keeps_model m has) in
+              filled_more long s es due.accepted.elements e b R P F M due.filled R' G P' H F' M'
+              (subst (λ (y : Content). RowsFor y b e R R') q (rows_model table g ps n e b R R' k.says (k.sized ∙ k.counted) (omega (arith, k.sized, k.places_in_lem)) (rw (← k.counted) r)))
+              tags
+              (subst (λ (y : Content). PlacesPut s es (places_in y) e P G P' H (length (places_in y) + 1)) q (rw (← k.counted, ← k.names_hold) w))
+              f
+              put
 
-        told : (d.kind ≡ 0 → ⊥) → (M' : List ℕ) → length M' ≡ length M → Linked (filled M e table d.code) e M' → MembersPut s (content_of es e) true e M M'
-        told z M' len is =
-            let read = due.accepted.elements in
-            let (g, ps, n, q, m) = is_model (content_of es e) keeps z in
-            let guarded : Guarded g = subst GuardedIn (sym q) (content_guarded es (type_file_guarded long s es read due.accepted.unrepeated) e) in
-            let (sized, total, plain) = type_file_members long s es read e (sym q) in
-            let small : size g ≤ GRPGTCNT = omega (arith, m.sized, m.places_in_lem) in
-            let put =
-            members_put s M M' table e d.code g due.filled.lent (omega (arith, few)) due.filled.members_rest m.room m.spelled m.says.next m.numbered guarded sized small total plain len is in
-            record {
-              lent = lent_still s M M' len due.filled.lent;
-              len = len;
-              under = λ k l. put.others k (inl l);
-              over = λ k l. put.others k (inr l);
-              plain = λ x. absurd (true≢false x);
-              told = λ x. subst (TellsIn M' e) q (put.told, λ u i. let range = has_range g 1 m.numbered u i in omega (arith, range.1));
-            }
+          pub element_plain : m.and ≡ false → (R' P' F' : List ℕ) → RowsPut table e 0 R R' (m.places + 1) → PlacesPut s es (places_of names m.places) e P G P' F' (m.places + 1)
+              → Filled s es R' P' F' M (e + 1)
+          element_plain none R' P' F' r w =
+              let (g, ps, n, q, k) = is_model m has (content_of es e) (keeps_model m has) in
+              by_rows false R' P' F' F' M r w (largest_same e F' w.facts_len) (members_same s (content_of es e) e M due.filled.lent (subst PlainIn q (k.plain none)))
 
-        pub element_among : (d.kind ≡ 0 → ⊥) → (R' P' H F' M' : List ℕ) → RowsPut table e RAISE R R' (d.places + 1) → PlacesPut s es (places_of names d.places) e P G P' H (d.places + 1)
-            → LargestPut true e H F' CONTENTS → length M' ≡ length M → Linked (filled M e table d.code) e M' → Filled s es R' P' F' M' (e + 1)
-        element_among z R' P' H F' M' r w f len is = by_rows z true R' P' H F' M' r w f (told z M' len is)
+          told : (M' : List ℕ) → length M' ≡ length M → Linked (filled M e table m.code) e M' → MembersPut s (content_of es e) true e M M'
+          told M' len is =
+              let read = due.accepted.elements in
+              let (g, ps, n, q, k) = is_model m has (content_of es e) (keeps_model m has) in
+              let guarded : Guarded g = subst GuardedIn (sym q) (content_guarded es (type_file_guarded long s es read due.accepted.unrepeated) e) in
+              let (sized, total, plain) = type_file_members long s es read e (sym q) in
+              let small : size g ≤ GRPGTCNT = omega (arith, k.sized, k.places_in_lem) in
+              let put =
+              members_put s M M' table e m.code g due.filled.lent (omega (arith, few)) due.filled.members_rest k.room k.spelled k.says.next k.numbered guarded sized small total plain len is in
+              record {
+                lent = lent_still s M M' len due.filled.lent;
+                len = len;
+                under = λ k l. put.others k (inl l);
+                over = λ k l. put.others k (inr l);
+                plain = λ x. absurd (true≢false x);
+                told = λ x. subst (TellsIn M' e) q (put.told, λ u i. let range = has_range g 1 k.numbered u i in omega (arith, range.1));
+              }
+
+          pub element_among : (R' P' H F' M' : List ℕ) → RowsPut table e RAISE R R' (m.places + 1) → PlacesPut s es (places_of names m.places) e P G P' H (m.places + 1)
+              → LargestPut true e H F' CONTENTS → length M' ≡ length M → Linked (filled M e table m.code) e M' → Filled s es R' P' F' M' (e + 1)
+          element_among R' P' H F' M' r w f len is = by_rows true R' P' H F' M' r w f (told M' len is)

@@ -22,7 +22,6 @@ ghost use Rattle.table_fill.specs.Names.{name_of, IsName, PlacesDue};
 ghost use Rattle.table_fill.specs.Own.{elements_of};
 ghost use Rattle.table_fill.specs.Elements.{Flags, StartFact, FactsPut, ElementDue};
 
-use element_reader::ElementRead;
 use layout::{
     CONTENTS, END_OMITTED, ElementNo, FACT, FACTS, HAS_MODEL, INDEX, LINK, MODEL, NAMES, PCDATA,
     PLACES, POSITIONS, Place, RAISE, RECORD, RECORDS, REQUIRED, ROW, ROWS, START_OMITTED,
@@ -30,6 +29,16 @@ use layout::{
 
 // What a place is raised by in a model with "&", as a byte of the tables.
 const RAISED: u8 = RAISE as u8;
+
+// A type as it is read again: how long its names may be, its file, the records of its elements with the index of their names, and their lists.
+#[derive(Clone, Copy)]
+struct Source<'a> {
+    long: usize,
+    s: &'a [u8],
+    elements: &'a [u32; RECORDS],
+    index: &'a [u8; INDEX],
+    lists: &'a [u16],
+}
 
 // By which number a place that names v is filed: that of the element, 0 for `#PCDATA`.
 fn slot(v: ElementNo) -> usize
@@ -46,7 +55,7 @@ fn put_place(
     p: Place,
     v: ElementNo,
 )
-    requires { (e.0 ≤ element_limit) × (p.0 ≤ GRPGTCNT) × (v.0 ≤ 255) × (slot_of v.0 ≤ element_limit) × (length places.old ≡ PLACES) × (length facts.old ≡ FACTS) }
+    requires { (e.0 ≤ element_limit) × (p.0 ≤ GRPGTCNT) × (v.0 ≤ 255) × (slot_of v.0 ≤ element_limit) }
     ensures { PlacePut e.0 p.0 v.0 places.old facts.old places.new facts.new }
 {
     let q = (e.0 * POSITIONS + p.0) * LINK;
@@ -62,7 +71,6 @@ fn put_place(
 
 // The document: its one place is the document element, required at the start.
 fn put_document(rows: &mut [u8; ROWS], places: &mut [u8; PLACES], facts: &mut [u8; FACTS])
-    requires { (length places.old ≡ PLACES) × (length facts.old ≡ FACTS) }
     ensures { (rows.new ≡ document_rows rows.old)
         × PlacePut 0 1 1 places.old facts.old places.new facts.new }
 {
@@ -76,16 +84,10 @@ fn put_document(rows: &mut [u8; ROWS], places: &mut [u8; PLACES], facts: &mut [u
 }
 
 // What the place p of the model whose names are in `names` names: an element, `PCDATA`, 0 if that is not declared.
-fn name(
-    s: &[u8],
-    elements: &[u32; RECORDS],
-    index: &[u8; INDEX],
-    names: &[u32; NAMES],
-    p: Place,
-) -> ElementNo
-    requires { (1 ≤ p.0) × (p.0 ≤ GRPGTCNT) × IsName s.now (place_in names.now (p.0 - 1)) }
-    ensures result_value { (es : List Element) → Indexed s.now es elements.now index.now →
-        result.0 ≡ name_of s.now es (place_in names.now (p.0 - 1)) }
+fn name(t: Source, names: &[u32; NAMES], p: Place) -> ElementNo
+    requires { (1 ≤ p.0) × (p.0 ≤ GRPGTCNT) × IsName t.s.now (place_in names.now (p.0 - 1)) }
+    ensures result_value { (es : List Element) → Indexed t.entry.s.now es t.entry.elements.now t.entry.index.now →
+        result.0 ≡ name_of t.entry.s.now es (place_in names.now (p.0 - 1)) }
     ensures result_bound { (result.0 ≤ 255) × (slot_of result.0 ≤ element_limit) }
 {
     let size = numbers::widened(names[2 * (p.0 - 1) + 1]);
@@ -93,56 +95,49 @@ fn name(
         return ElementNo(PCDATA);
     }
     let at = model_names::place_at(names, p.0);
-    let f = element_index::find(s, elements, index, s, at, size);
-    let e = f.element;
-    e
+    element_index::find(t.s, t.elements, t.index, t.s, at, size).element
 }
 
 // The places of the element e, whose model has `count` places with their names in `names`.
 fn put_places(
-    s: &[u8],
-    elements: &[u32; RECORDS],
-    index: &[u8; INDEX],
+    t: Source,
     places: &mut [u8; PLACES],
     facts: &mut [u8; FACTS],
     e: ElementNo,
     names: &[u32; NAMES],
     count: usize,
 )
-    requires { PlacesDue s.now names.now places.old facts.old e.0 count }
-    ensures { (es : List Element) → Indexed s.now es elements.now index.now →
-        PlacesPut s.now es (places_of names.now count) e.0
+    requires { PlacesDue t.s.now names.now places.old facts.old e.0 count }
+    ensures { (es : List Element) → Indexed t.entry.s.now es t.entry.elements.now t.entry.index.now →
+        PlacesPut t.entry.s.now es (places_of names.now count) e.0
         places.old facts.old places.new facts.new (count + 1) }
 {
-    let mut i = 1;
-    while i <= count {
+    for i in 1..count + 1 {
         let p = Place(i);
-        let v = name(s, elements, index, names, p);
-        put_place(places, facts, e, p, v);
-        i += 1;
+        put_place(places, facts, e, p, name(t, names, p));
     }
 }
 
 // Whether the start of the element e may be inferred, by its record and its list: "O", and none of its attributes is required.
-fn start_fact(elements: &[u32; RECORDS], lists: &[u16], e: ElementNo) -> u8
-    requires { (1 ≤ e.0) × (e.0 ≤ element_limit) × Flags elements.now e.0 }
-    ensures { StartFact elements.now lists.now e.0 result }
+fn start_fact(t: Source, e: ElementNo) -> u8
+    requires { (1 ≤ e.0) × (e.0 ≤ element_limit) × Flags t.elements.now e.0 }
+    ensures { StartFact t.entry.elements.now t.entry.lists.now e.0 result }
 {
-    if list_table::needs_tag(lists, e) {
+    if list_table::needs_tag(t.lists, e) {
         return 0;
     }
-    elements[RECORD * (e.0 - 1) + 2] as u8
+    t.elements[RECORD * (e.0 - 1) + 2] as u8
 }
 
 // Whether the start of the element e may be inferred, whether its end may be omitted, and its content.
-fn put_facts(facts: &mut [u8; FACTS], elements: &[u32; RECORDS], lists: &[u16], e: ElementNo)
-    requires { (1 ≤ e.0) × (e.0 ≤ element_limit) × Flags elements.now e.0 }
-    ensures { FactsPut elements.now lists.now e.0 facts.old facts.new }
+fn put_facts(t: Source, facts: &mut [u8; FACTS], e: ElementNo)
+    requires { (1 ≤ e.0) × (e.0 ≤ element_limit) × Flags t.elements.now e.0 }
+    ensures { FactsPut t.entry.elements.now t.entry.lists.now e.0 facts.old facts.new }
 {
     let k = RECORD * (e.0 - 1);
-    facts[e.0 * FACT + START_OMITTED] = start_fact(elements, lists, e);
-    facts[e.0 * FACT + END_OMITTED] = elements[k + 3] as u8;
-    facts[e.0 * FACT + HAS_MODEL] = elements[k + 4] as u8;
+    facts[e.0 * FACT + START_OMITTED] = start_fact(t, e);
+    facts[e.0 * FACT + END_OMITTED] = t.elements[k + 3] as u8;
+    facts[e.0 * FACT + HAS_MODEL] = t.elements[k + 4] as u8;
 }
 
 // The largest place of a name as it is kept where the model has an "&": higher by `RAISE`, if there is one.
@@ -160,24 +155,19 @@ fn raised(p: u8) -> u8
 
 // The largest places of the element e are kept higher: its model has an "&".
 fn raise_facts(facts: &mut [u8; FACTS], e: ElementNo)
-    requires { (e.0 ≤ element_limit) × (length facts.old ≡ FACTS) }
+    requires { e.0 ≤ element_limit }
     ensures { LargestPut true e.0 facts.old facts.new CONTENTS }
 {
     let f = e.0 * FACT;
-    let mut x = 0;
-    while x < CONTENTS {
+    for x in 0..CONTENTS {
         facts[f + x] = raised(facts[f + x]);
-        x += 1;
     }
 }
 
 // The element e: its declaration is read again from its name on, which fills `names` and `table`.
+// Kept: the four tables one by one: (plainer) a struct of `&mut` would need in each contract here that each field stays the same reference.
 fn put_element(
-    long: usize,
-    s: &[u8],
-    elements: &[u32; RECORDS],
-    lists: &[u16],
-    index: &[u8; INDEX],
+    t: Source,
     rows: &mut [u8; ROWS],
     places: &mut [u8; PLACES],
     facts: &mut [u8; FACTS],
@@ -186,36 +176,28 @@ fn put_element(
     names: &mut [u32; NAMES],
     table: &mut [u8; MODEL],
 )
-    requires { ElementDue long s.now (elements_of long s.now) elements.now lists.now index.now rows.old places.old facts.old members.old e.0 }
-    ensures { Filled s.now (elements_of long s.now) rows.new places.new facts.new members.new (e.0 + 1) }
+    requires { ElementDue t.long t.s.now (elements_of t.long t.s.now) t.elements.now t.lists.now t.index.now rows.old places.old facts.old members.old e.0 }
+    ensures { Filled t.entry.s.now (elements_of t.entry.long t.entry.s.now) rows.new places.new facts.new members.new (e.0 + 1) }
 {
-    put_facts(facts, elements, lists, e);
-    let r = element_reader::element_at(
-        long,
-        s,
-        element_index::offset(elements, e),
-        elements,
-        e.0 - 1,
-        names,
-        table,
-    );
-    let ElementRead::Read(d) = r else {
+    put_facts(t, facts, e);
+    let at = element_index::offset(t.elements, e);
+    let r = element_reader::element_at(t.long, t.s, at, t.elements, e.0 - 1, names, table);
+    let Ok(d) = r else {
         return;
     };
-    if d.kind == 0 {
+    let Some(m) = d.model else {
         let none = Place(0);
         rows[row_search::row(e, none)] = 1;
         return;
-    }
-    let n = d.places;
-    put_places(s, elements, index, places, facts, e, names, n);
-    if d.and == 0 {
-        model_rows::put_rows(rows, e, table, n, 0);
+    };
+    put_places(t, places, facts, e, names, m.places);
+    if !m.and {
+        model_rows::put_rows(rows, e, table, m.places, 0);
         return;
     }
-    model_rows::put_rows(rows, e, table, n, RAISED);
+    model_rows::put_rows(rows, e, table, m.places, RAISED);
     raise_facts(facts, e);
-    member_sets::fill(members, e, table, d.code);
+    member_sets::fill(members, e, table, m.code);
 }
 
 // Fills the tables, which are all 0, from an accepted type file whose elements are recorded in `elements`. Where no "&" stands in it there need be no table
@@ -239,25 +221,18 @@ pub fn fill(
     ensures { (edition : ℕ) (es : List Element) → Accepts (settings long edition) s.now es → length es ≡ count → Recorded elements.now es →
         Tables s.now es rows.new places.new facts.new members.new }
 {
+    let t = Source {
+        long,
+        s,
+        elements,
+        index,
+        lists,
+    };
     let mut names = [0u32; NAMES];
     let mut table = [0u8; MODEL];
     put_document(rows, places, facts);
-    let mut k = 1;
-    while k <= count {
-        put_element(
-            long,
-            s,
-            elements,
-            lists,
-            index,
-            rows,
-            places,
-            facts,
-            members,
-            ElementNo(k),
-            &mut names,
-            &mut table,
-        );
-        k += 1;
+    for k in 1..count + 1 {
+        let e = ElementNo(k);
+        put_element(t, rows, places, facts, members, e, &mut names, &mut table);
     }
 }
