@@ -113,7 +113,7 @@ module _ {facts : List ℕ} {x at n : ℕ} {o : OpenElements} {numbers bytes : L
           reached = λ l. e;
           ends = λ s es raised f M begun z st.
               let (y, here, ev, i) = g.same s es raised f M begun z st in
-              (y, i ∙ ends_here s es (decided s es) x at y.around y.current y.events (here.current.entered.number ∙ e), here, ev);
+              (y, i ∙ ends_here s es (decided s es) x at y.around y.current y.events (here.current.entered.number ∙ e), (here, ev));
         }
 
     pub until_none : q.count ≡ 0 → UntilGot facts x at n o numbers bytes (left q k) numbers' bytes'
@@ -126,8 +126,7 @@ module _ {facts : List ℕ} {x at n : ℕ} {o : OpenElements} {numbers bytes : L
               let (y, here, ev, i) = g.same s es raised f M begun z st in (
                 y,
                 i ∙ subst (λ (os : List rules.Open). infer_ends s es (decided s es) x at os y.current y.events ≡ got (state y.current os y.events)) (sym (stands_alone here e)) (ends_none s es (decided s es) x at y.current y.events),
-                here,
-                ev,
+                (here, ev),
               );
         }
 

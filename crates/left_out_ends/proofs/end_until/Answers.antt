@@ -2,6 +2,7 @@
 use mathlib.Core.Path.{ap}
 use native.Mathlib.Omega.{arith}
 use Rattle.open_elements.specs.declared.OpenElements.{OpenElements}
+use Rattle.open_elements.specs.Becomes.{passed_on}
 use Rattle.left_out_ends.specs.Loop.{goes_start, goes_turn, until_here, until_none, until_refused}
 use Rattle.left_out_ends.proofs.end_until.Goals as goal
 
@@ -15,7 +16,7 @@ pub end_fault-requires : goal.end_fault-requires
 end_fault-requires c = c.loop-o.invariant.ranged
 
 pub returns-in_err-end_fault : goal.returns-in_err-end_fault
-returns-in_err-end_fault c = ?
+returns-in_err-end_fault c = rw (passed_on _ c.from_residual.ensures.1) (until_refused c.loop-o.invariant (omega (arith, c.loop-o-test.true)) c.if-e-x.false c.in_err-end_fault.ensures)
 
 pub put_event-k-requires : goal.put_event-k-requires
 put_event-k-requires c =
@@ -33,7 +34,7 @@ loop-o-smaller c =
 
 pub loop-o-preserved : goal.loop-o-preserved
 loop-o-preserved c = goes_turn c.loop-o.invariant (omega (arith, c.loop-o-test.true)) c.if-e-x.false c.in_ok-end_fault.ensures c.infer_end-o.ensures
-    c.put_event-k.ensures.0 c.put_event-k.ensures.1.0
+    c.put_event-k.ensures.0 c.put_event-k.ensures.1
 
 pub returns : goal.returns
 returns c = until_none c.loop-o.invariant (omega (arith, c.loop-o-test.false))
