@@ -1,5 +1,5 @@
 -- What is answered of one attribute, and of all of a tag.
-use Rattle.std.specs.Prelude.{ℕ, Result, Ok, Err, ◌+◌, ◌*◌, ◌-◌, ◌≤◌, ◌≡◌, refl, Bool, true, false, List, [], ◌∷◌, ◌++◌, length, get_or, take, leb}
+use Rattle.std.specs.Prelude.{ℕ, Result, Ok, Err, ◌+◌, ◌*◌, ◌-◌, ◌≤◌, ◌≡◌, Bool, true, false, List, [], ◌∷◌, ◌++◌, length, get_or, take, leb}
 use Rattle.std.proofs.Common.{sym, ◌∙◌, ap, subst, arith, le-leb}
 use Rattle.std.proofs.Math.Bool.{and-false}
 use Rattle.rules.specs.Bytes.{ATTCNT}
@@ -17,7 +17,7 @@ use Rattle.list_table.specs.Lists.{row_in, ListAt}
 use Rattle.tag_attributes.specs.Given.{kept_of, KeptAs}
 use Rattle.attribute_marks.specs.Found.{of_some}
 use Rattle.attribute_marks.specs.Differ.{NamesDiffer}
-use Rattle.attribute_marks.specs.Marks.{Marked, Attributed}
+use Rattle.attribute_marks.specs.Marks.{Marked}
 use Rattle.attribute_marks.specs.Each.{is_new, is_fitting, Marks, Given, unlisted, unfitting, fitting}
 use Rattle.attribute_marks.specs.Marking.{is_some, mark_none, mark_some, given_in, put_mark, marked_more}
 use Rattle.attribute_marks.specs.Listed.{kept_all, kept_refused}

@@ -1,6 +1,7 @@
 -- One attribute after the other: what is known behind the first k, and what one more gives.
-use Prim.Native.Nat.{ℕ, zero, suc, ◌+◌, ◌*◌, ◌-◌, ◌≤◌, ◌<◌}
+use Prim.Native.Nat.{ℕ, zero, suc, ◌+◌, ◌*◌, ◌≤◌, ◌<◌}
 use Rattle.std.specs.Prelude.{◌≡◌, Result, Ok, Err, Option, Some, None, length, get_or}
+use Rattle.std.specs.Option.{option_or}
 use Rattle.std.proofs.Math.Path.{refl, ap}
 use Rattle.std.proofs.Common.{sym, ◌∙◌, subst, add-one}
 use mathlib.Core.List.{List, [], ◌∷◌, ◌++◌}
@@ -26,30 +27,26 @@ abbrev misfit_at : Option ℕ → Reading (Unit {0})
 misfit_at None = got tt
 misfit_at (Some q) = refused 22 q
 
--- What is remembered behind one more, whose quote stands at q and which does not fit.
-abbrev pub first_of : Option ℕ → ℕ → Option ℕ
-first_of None q = Some q
-first_of (Some p) q = Some p
-
 module _ (long : ℕ) (s : List ℕ) (xs : List Attribute) (d : List ℕ) (vs : List rules.Written) (w : rules.Written) (marks : List ℕ) where
   -- One more that fits, and one that does not: the first misfit is remembered.
   fit_right : (m : Option ℕ) → all_fit long s xs d vs ≡ misfit_at m → Marks long s xs d vs w marks (Ok tt) → all_fit long s xs d (vs ++ w ∷ []) ≡ misfit_at m
   fit_right None e (fitting n k f) = fit_more long s xs d vs w e f
   fit_right (Some q) e (fitting n k f) = fit_refused long s xs d vs (w ∷ []) e
 
-  fit_wrong : (m : Option ℕ) → all_fit long s xs d vs ≡ misfit_at m → Marks long s xs d vs w marks (Err refusal.Value) → all_fit long s xs d (vs ++ w ∷ []) ≡ misfit_at (first_of m w.quote)
-  fit_wrong None e (unfitting n k f) = fit_ends long s xs d vs w e f
-  fit_wrong (Some q) e (unfitting n k f) = fit_refused long s xs d vs (w ∷ []) e
+  fit_wrong : (m : Option ℕ) (r : Refusal) → (r ≡ refusal.Attribute → ⊥) → all_fit long s xs d vs ≡ misfit_at m → Marks long s xs d vs w marks (Err r) → all_fit long s xs d (vs ++ w ∷ []) ≡ misfit_at (option_or m (Some w.quote))
+  fit_wrong None r y e (unlisted n) = absurd (y refl)
+  fit_wrong None r y e (unfitting n k f) = fit_ends long s xs d vs w e f
+  fit_wrong (Some q) r y e x = fit_refused long s xs d vs (w ∷ []) e
 
   listed_right : all_listed s xs d [] vs ≡ got tt → Marks long s xs d vs w marks (Ok tt) → (all_listed s xs d [] (vs ++ w ∷ []) ≡ got tt) × Marked s xs d (vs ++ w ∷ []) marks
   listed_right e (fitting n k f) = (listed_more s xs d vs w e n, k)
 
-  listed_wrong : all_listed s xs d [] vs ≡ got tt → Marks long s xs d vs w marks (Err refusal.Value) → (all_listed s xs d [] (vs ++ w ∷ []) ≡ got tt) × Marked s xs d (vs ++ w ∷ []) marks
-  listed_wrong e (unfitting n k f) = (listed_more s xs d vs w e n, k)
+  listed_wrong : (r : Refusal) → (r ≡ refusal.Attribute → ⊥) → all_listed s xs d [] vs ≡ got tt → Marks long s xs d vs w marks (Err r) → (all_listed s xs d [] (vs ++ w ∷ []) ≡ got tt) × Marked s xs d (vs ++ w ∷ []) marks
+  listed_wrong r y e (unlisted n) = absurd (y refl)
+  listed_wrong r y e (unfitting n k f) = (listed_more s xs d vs w e n, k)
 
-  listed_stop : (r : Refusal) → (r ≡ refusal.Value → ⊥) → all_listed s xs d [] vs ≡ got tt → Marks long s xs d vs w marks (Err r) → all_listed s xs d [] (vs ++ w ∷ []) ≡ refused 20 w.at
-  listed_stop r y e (unlisted n) = listed_ends s xs d vs w e n
-  listed_stop r y e (unfitting n k f) = absurd (y refl)
+  listed_stop : all_listed s xs d [] vs ≡ got tt → Marks long s xs d vs w marks (Err refusal.Attribute) → all_listed s xs d [] (vs ++ w ∷ []) ≡ refused 20 w.at
+  listed_stop e (unlisted n) = listed_ends s xs d vs w e n
 
 -- The first k of those that are kept are listed and marked, and the first misfit among them is remembered.
 record Goes (long : ℕ) (s : List ℕ) (xs : List Attribute) (d g : List ℕ) (k : ℕ) (marks : List ℕ) (misfit : Option ℕ) : Type 0 where
@@ -93,8 +90,9 @@ module _ (long : ℕ) (s lists : List ℕ) (b : ℕ) (d g before : List ℕ) whe
     abbrev pub Says : Result (Unit {0}) Refusal → Type 0
     Says r = (xs : List Attribute) (vs : List rules.Written) → ListAt long s lists b xs → NamesDiffer s xs → Marked s xs d vs marks → Marks long s xs d vs (written_as w) after r
 
-    pub going_right : Says (Ok tt) → Going long s lists b d g before (k + 1) after misfit
-    going_right m = record { goes = goes }
+    pub going_right : (r : Result (Unit {0}) Refusal) → ((f : Refusal) → r ≡ Err f → ⊥) → Says r → Going long s lists b d g before (k + 1) after misfit
+    going_right (Err f) n m = absurd (n f refl)
+    going_right (Ok _) n m = record { goes = goes }
       where
         goes : (xs : List Attribute) → ListAt long s lists b xs → NamesDiffer s xs → ((j : ℕ) → j < length xs → get_or before (2 * j) 0 ≡ 0) → Goes long s xs d g (k + 1) after misfit
         goes xs a n z =
@@ -107,34 +105,34 @@ module _ (long : ℕ) (s lists : List ℕ) (b : ℕ) (d g before : List ℕ) whe
               fit = rw (← snoc) (fit_right long s xs d (kept_of g k) (written_as w) after misfit o.fit made);
             }
 
-    pub going_wrong : Says (Err refusal.Value) → Going long s lists b d g before (k + 1) after (first_of misfit w.quote)
-    going_wrong m = record { goes = goes }
+    pub going_wrong : (r : Refusal) → (r ≡ refusal.Attribute → ⊥) → Says (Err r) → Going long s lists b d g before (k + 1) after (option_or misfit (Some w.quote))
+    going_wrong r y m = record { goes = goes }
       where
-        goes : (xs : List Attribute) → ListAt long s lists b xs → NamesDiffer s xs → ((j : ℕ) → j < length xs → get_or before (2 * j) 0 ≡ 0) → Goes long s xs d g (k + 1) after (first_of misfit w.quote)
+        goes : (xs : List Attribute) → ListAt long s lists b xs → NamesDiffer s xs → ((j : ℕ) → j < length xs → get_or before (2 * j) 0 ≡ 0) → Goes long s xs d g (k + 1) after (option_or misfit (Some w.quote))
         goes xs a n z =
             let o = f.goes xs a n z in
             let made = m xs (kept_of g k) a n o.marked in
-            let (l, t) = listed_wrong long s xs d (kept_of g k) (written_as w) after o.listed made in
+            let (l, t) = listed_wrong long s xs d (kept_of g k) (written_as w) after r y o.listed made in
             record {
               listed = rw (← snoc) l;
               marked = subst (λ (vs : List rules.Written). Marked s xs d vs after) snoc t;
-              fit = rw (← snoc) (fit_wrong long s xs d (kept_of g k) (written_as w) after misfit o.fit made);
+              fit = rw (← snoc) (fit_wrong long s xs d (kept_of g k) (written_as w) after misfit r y o.fit made);
             }
 
-    pub going_stop : (r : Refusal) → (r ≡ refusal.Value → ⊥) → Says (Err r) → (n : ℕ) → k < n → (xs : List Attribute) → ListAt long s lists b xs → NamesDiffer s xs → ((j : ℕ) → j < length xs → get_or before (2 * j) 0 ≡ 0)
-        → Given long s xs d (kept_of g n) after (Err (fault_at refusal.Attribute w.name))
+    pub going_stop : (r : Refusal) → r ≡ refusal.Attribute → Says (Err r) → (n : ℕ) → k < n → (xs : List Attribute) → ListAt long s lists b xs → NamesDiffer s xs → ((j : ℕ) → j < length xs → get_or before (2 * j) 0 ≡ 0)
+        → Given long s xs d (kept_of g n) after (Err (fault_at r w.name))
     going_stop r y m n h xs a u z =
         let o = f.goes xs a u z in
-        let l = listed_stop long s xs d (kept_of g k) (written_as w) after r y o.listed (m xs (kept_of g k) a u o.marked) in
-        unlisted w.name (listed_on s xs d g (k + 1) w.name (rw (← snoc) l) n (omega arith))
+        let l = listed_stop long s xs d (kept_of g k) (written_as w) after o.listed (rw y at (m xs (kept_of g k) a u o.marked)) in
+        rw y (unlisted w.name (listed_on s xs d g (k + 1) w.name (rw (← snoc) l) n (omega arith)))
 
-  module _ (k n : ℕ) (e : k ≡ n) (marks : List ℕ) (xs : List Attribute) (a : ListAt long s lists b xs) (u : NamesDiffer s xs) (z : (j : ℕ) → j < length xs → get_or before (2 * j) 0 ≡ 0) where
-    pub going_misfit : (q : ℕ) → Going long s lists b d g before k marks (Some q) → Given long s xs d (kept_of g n) marks (Err (fault_at refusal.Value q))
-    going_misfit q f =
+  module _ (k n : ℕ) (e : k ≡ n) (marks : List ℕ) (misfit : Option ℕ) (f : Going long s lists b d g before k marks misfit) (xs : List Attribute) (a : ListAt long s lists b xs) (u : NamesDiffer s xs) (z : (j : ℕ) → j < length xs → get_or before (2 * j) 0 ≡ 0) where
+    pub going_misfit : {q : ℕ} → misfit ≡ Some q → Given long s xs d (kept_of g n) marks (Err (fault_at refusal.Value q))
+    going_misfit {q} y =
         let o = f.goes xs a u z in
-        unfitting q (rw (← e) o.listed) (rw (← e) o.fit)
+        unfitting q (rw (← e) o.listed) (rw (← e) (o.fit ∙ ap misfit_at y))
 
-    pub going_end : Going long s lists b d g before k marks None → Given long s xs d (kept_of g n) marks (Ok tt)
-    going_end f =
+    pub going_end : misfit ≡ None → Given long s xs d (kept_of g n) marks (Ok tt)
+    going_end y =
         let o = f.goes xs a u z in
-        fitting (rw (← e) o.listed) (rw (← e) o.fit) (subst (λ (i : ℕ). Marked s xs d (kept_of g i) marks) e o.marked)
+        fitting (rw (← e) o.listed) (rw (← e) (o.fit ∙ ap misfit_at y)) (subst (λ (i : ℕ). Marked s xs d (kept_of g i) marks) e o.marked)

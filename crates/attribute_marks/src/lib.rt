@@ -93,14 +93,11 @@ fn marked(
     let mut misfit = None;
     for k in 0..n {
         let w = tag_attributes::kept(given, k);
-        match mark(long, s, lists, d, e, w, marks) {
-            Ok(()) => {}
-            Err(Refusal::Value) => {
-                if misfit.is_none() {
-                    misfit = Some(w.quote);
-                }
+        if let Err(r) = mark(long, s, lists, d, e, w, marks) {
+            match r {
+                Refusal::Attribute => return Err(r.at(w.name)),
+                _ => misfit = misfit.or(Some(w.quote)),
             }
-            Err(_) => return Err(Refusal::Attribute.at(w.name)),
         }
     }
     match misfit {
