@@ -10,27 +10,25 @@ ghost use Rattle.text.specs.Refusal.{fault_at};
 ghost use Rattle.text.specs.declared.Refusal.TheVariants.{Malformed};
 ghost use Rattle.content_tokens.specs.Meets.{wrong_data, Meets};
 
-use connectors::Model;
+use connectors::{Counts, Model};
 use layout::{MODEL, NAMES};
 use text::{Fault, Reading, Refusal};
 
-// A name as content token, at most `long` bytes long. Where it is refused, what `names` and `table` hold is not decided; nor is, here and
+// A name as content token, at most `long` bytes long, of a model that had so much. Where it is refused, what `names` and `table` hold is not decided; nor is, here and
 // below, what they hold behind the places that were read.
 pub fn name_token(
     long: usize,
     s: &[u8],
     at: usize,
     full: bool,
-    places: usize,
-    tokens: usize,
-    code: u16,
+    had: Counts,
     names: &mut [u32; NAMES],
     table: &mut [u8; MODEL],
 ) -> Reading<Model>
     requires at_in_bounds { (at ≤ length s.now) × (length s.now ≤ type_limit) }
-    requires places_le_tokens { (places ≤ tokens) × (full ≡ false → tokens < GRPGTCNT) }
-    ensures { Meets (length s.now) (begun (places + 1) table.old code (4 * tokens + 3)) names.new table.new result
-        (name_token long s.now at full (places_of names.old places) tokens) }
+    requires places_le_tokens { (had.places ≤ had.tokens) × (full ≡ false → had.tokens < GRPGTCNT) }
+    ensures { Meets (length s.now) (begun (had.places + 1) table.old had.code (4 * had.tokens + 3)) names.new table.new result
+        (name_token long s.now at full (places_of names.old had.places) had.tokens) }
 {
     let e = text::name_end(s, at);
     let n = e - at;
@@ -40,16 +38,16 @@ pub fn name_token(
     if full {
         return Err(Refusal::Quantity.at(at));
     }
-    model_names::put_name(names, places, at, n);
-    let p = places + 1;
-    let count = tokens + 1;
+    model_names::put_name(names, had.places, at, n);
+    let p = had.places + 1;
+    let count = had.tokens + 1;
     let part = model_table::put_place(table, p);
     let m = Model {
         at: e,
         places: p,
         tokens: count,
         part: part,
-        code: model_code::put(table, code, p as u8),
+        code: model_code::put(table, had.code, p as u8),
         and: 0,
         repeated: 0,
     };
@@ -72,16 +70,14 @@ pub fn data_token(
     s: &[u8],
     at: usize,
     full: bool,
-    places: usize,
-    tokens: usize,
-    code: u16,
+    had: Counts,
     names: &mut [u32; NAMES],
     table: &mut [u8; MODEL],
 ) -> Reading<Model>
     requires at_in_bounds { (at < length s.now) × (length s.now ≤ type_limit) }
-    requires places_le_tokens { (places ≤ tokens) × (full ≡ false → tokens < GRPGTCNT) }
-    ensures { Meets (length s.now) (begun (places + 1) table.old code (4 * tokens + 3)) names.new table.new result
-        (data_token s.now at full (places_of names.old places) tokens) }
+    requires places_le_tokens { (had.places ≤ had.tokens) × (full ≡ false → had.tokens < GRPGTCNT) }
+    ensures { Meets (length s.now) (begun (had.places + 1) table.old had.code (4 * had.tokens + 3)) names.new table.new result
+        (data_token s.now at full (places_of names.old had.places) had.tokens) }
 {
     let b = text::byte(s, at + 1);
     if text::is_letter(b) {
@@ -92,16 +88,16 @@ pub fn data_token(
         if full {
             return Err(Refusal::Quantity.at(at));
         }
-        model_names::put_name(names, places, at, 0);
-        let p = places + 1;
+        model_names::put_name(names, had.places, at, 0);
+        let p = had.places + 1;
         let part = model_table::put_place(table, p);
         model_table::repeat(table, p, p + 1);
-        let one = model_code::put(table, code, p as u8);
+        let one = model_code::put(table, had.code, p as u8);
         let many = model_code::put(table, one, model_code::PLUS_CODE);
         return Ok(Model {
             at: e,
             places: p,
-            tokens: tokens + 1,
+            tokens: had.tokens + 1,
             part: model_table::optional(part),
             code: model_code::put(table, many, model_code::OPT_CODE),
             and: 0,

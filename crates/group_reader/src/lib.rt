@@ -9,7 +9,7 @@ ghost use Rattle.connectors.specs.Kept.{begun, Keeps};
 ghost use Rattle.content_tokens.specs.Meets.{Meets};
 ghost use Rattle.group_reader.specs.Further.{MeetsFurther, closed_table, closed_code};
 
-use connectors::Model;
+use connectors::{Counts, Model};
 use layout::{GRPCNT, GRPGTCNT, MODEL, NAMES};
 use text::{Reading, Refusal};
 
@@ -48,30 +48,32 @@ fn token_at(
     at: usize,
     levels: usize,
     full: bool,
-    places: usize,
-    tokens: usize,
-    code: u16,
+    had: Counts,
     names: &mut [u32; NAMES],
     table: &mut [u8; MODEL],
 ) -> Reading<Model>
     requires at_in_bounds { (at ≤ length s.now) × (length s.now ≤ type_limit) }
-    requires places_le_tokens { (places ≤ tokens) × (full ≡ false → tokens < GRPGTCNT) }
-    ensures { Meets (length s.now) (begun (places + 1) table.old code (4 * tokens + 3)) names.new table.new result
-        (token long (group long levels s.now) s.now at full (places_of names.old places) tokens) }
+    requires places_le_tokens { (had.places ≤ had.tokens) × (full ≡ false → had.tokens < GRPGTCNT) }
+    ensures { Meets (length s.now) (begun (had.places + 1) table.old had.code (4 * had.tokens + 3)) names.new table.new result
+        (token long (group long levels s.now) s.now at full (places_of names.old had.places) had.tokens) }
 {
     let b = text::byte(s, at);
     if text::is_letter(b) {
-        return content_tokens::name_token(long, s, at, full, places, tokens, code, names, table);
+        return content_tokens::name_token(long, s, at, full, had, names, table);
     }
     if b == b'#' {
-        return content_tokens::data_token(s, at, full, places, tokens, code, names, table);
+        return content_tokens::data_token(s, at, full, had, names, table);
     }
     if b == b'(' {
         if full {
             return Err(Refusal::Quantity.at(at));
         }
-        let m = group_at(long, s, at, levels, places, tokens + 1, code, names, table)?;
-        return Ok(connectors::with_occurrence(s, table, places + 1, m));
+        let with_it = Counts {
+            tokens: had.tokens + 1,
+            ..had
+        };
+        let m = group_at(long, s, at, levels, with_it, names, table)?;
+        return Ok(connectors::with_occurrence(s, table, had.places + 1, m));
     }
     if b == b'[' || b == b'%' {
         return Err(Refusal::LeftOut.at(at));
@@ -100,19 +102,16 @@ fn next_at(
 {
     let i = text::separators_end(s, m.at);
     let b = text::byte(s, i);
-    let places = m.places;
-    let tokens = m.tokens;
-    let code = m.code;
+    let had = Counts {
+        places: m.places,
+        tokens: m.tokens,
+        code: m.code,
+    };
     if b == b')' {
-        let part = m.part;
         return Ok(Next::Closed(Model {
             at: i + 1,
-            places: places,
-            tokens: tokens,
-            part: part,
-            code: closed_code(table, code, k, c),
-            and: m.and,
-            repeated: m.repeated,
+            code: closed_code(table, had.code, k, c),
+            ..m
         }));
     }
     if b == b'%' {
@@ -122,8 +121,8 @@ fn next_at(
         return Err(Refusal::Malformed.at(i));
     }
     let j = text::separators_end(s, i + 1);
-    let full = is_full(k, tokens);
-    let u = token_at(long, s, j, levels, full, places, tokens, code, names, table)?;
+    let full = is_full(k, had.tokens);
+    let u = token_at(long, s, j, levels, full, had, names, table)?;
     Ok(Next::Joined(b, connectors::joined_by(table, b, i, lo, m, u)))
 }
 
@@ -135,37 +134,25 @@ pub fn group_at(
     s: &[u8],
     at: usize,
     levels: usize,
-    places: usize,
-    tokens: usize,
-    code: u16,
+    had: Counts,
     names: &mut [u32; NAMES],
     table: &mut [u8; MODEL],
 ) -> Reading<Model>
     requires at_in_bounds { (at < length s.now) × (length s.now ≤ type_limit) }
-    requires places_le_tokens { (places ≤ tokens) × (tokens ≤ GRPGTCNT) }
-    ensures { Meets (length s.now) (begun (places + 1) table.old code (4 * tokens + 2)) names.new table.new result
-        (group long levels s.now at (places_of names.old places) tokens) }
+    requires places_le_tokens { (had.places ≤ had.tokens) × (had.tokens ≤ GRPGTCNT) }
+    ensures { Meets (length s.now) (begun (had.places + 1) table.old had.code (4 * had.tokens + 2)) names.new table.new result
+        (group long levels s.now at (places_of names.old had.places) had.tokens) }
 {
     if levels == 0 {
         return Err(Refusal::Quantity.at(at));
     }
     let i = text::separators_end(s, at + 1);
-    let mut m = token_at(
-        long,
-        s,
-        i,
-        levels - 1,
-        GRPGTCNT <= tokens,
-        places,
-        tokens,
-        code,
-        names,
-        table,
-    )?;
+    let full = GRPGTCNT <= had.tokens;
+    let mut m = token_at(long, s, i, levels - 1, full, had, names, table)?;
     let mut k: usize = 1;
     let mut c: u8 = 0;
     loop {
-        match next_at(long, s, levels - 1, places + 1, k, c, m, names, table)? {
+        match next_at(long, s, levels - 1, had.places + 1, k, c, m, names, table)? {
             Next::Closed(u) => {
                 return Ok(u);
             }

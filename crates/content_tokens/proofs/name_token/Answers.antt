@@ -13,12 +13,12 @@ overflow_sub-n c =
 pub returns-then-long-n : goal.returns-then-long-n
 returns-then-long-n c =
     let x = c.args in
-    refuses _ c.at.ensures (name_long x.long x.s.now x.at _ x.full _ x.tokens c.name_end-e.ensures c.if-long-n.true)
+    refuses _ c.at.ensures (name_long x.long x.s.now x.at _ x.full _ x.had.tokens c.name_end-e.ensures c.if-long-n.true)
 
 pub returns-then-full : goal.returns-then-full
 returns-then-full c =
     let x = c.args in
-    refuses _ c.at-then-full.ensures (name_full x.long x.s.now x.at _ x.full _ x.tokens c.name_end-e.ensures c.if-long-n.false c.if-full.true)
+    refuses _ c.at-then-full.ensures (name_full x.long x.s.now x.at _ x.full _ x.had.tokens c.name_end-e.ensures c.if-long-n.false c.if-full.true)
 
 pub put_name-requires : goal.put_name-requires
 put_name-requires c =
@@ -50,7 +50,7 @@ returns c =
     let x = c.args in
     let e = c.name_end-e in
     got_meets _ _ _ _ _ _ _
-    (name_got x.long x.s.now x.at e.result x.full _ x.tokens e.ensures c.if-long-n.false c.if-full.false)
+    (name_got x.long x.s.now x.at e.result x.full _ x.had.tokens e.ensures c.if-long-n.false c.if-full.false)
     (c.with_occurrence.ensures _ _ _ _ _
-    (new_place_lem _ x.at e.result _ x.places x.tokens x.code x.table.now x.names.now _
+    (new_place_lem _ x.at e.result _ x.had.places x.had.tokens x.had.code x.table.now x.names.now _
     (omega (arith, name_end_le x.s.now x.at c.requires.at_in_bounds.0, e.ensures)) c.requires.places_le_tokens.0 (c.requires.places_le_tokens.1 c.if-full.false) c.put_name.ensures.0 _ c.put_place-part.ensures.0 _ _ _ c.put_place-part.ensures.1 c.put.ensures.0 c.put.ensures.1))

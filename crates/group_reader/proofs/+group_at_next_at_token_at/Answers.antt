@@ -18,7 +18,7 @@ use Rattle.group_reader.proofs.+group_at_next_at_token_at.Goals.{token_at-then-b
 pub group_at-returns-then-levels-eq0 : goal.group_at-returns-then-levels-eq0
 group_at-returns-then-levels-eq0 t c =
     let x = c.args in
-    refuses _ c.at.ensures (group_none x.long x.levels x.s.now x.at _ x.tokens c.if-levels-eq0.true)
+    refuses _ c.at.ensures (group_none x.long x.levels x.s.now x.at _ x.had.tokens c.if-levels-eq0.true)
 
 pub group_at-token_at-requires : goal.group_at-token_at-requires
 group_at-token_at-requires t c =
@@ -34,9 +34,9 @@ group_at-token_at-requires t c =
 pub group_at-returns-in_err-m : goal.group_at-returns-in_err-m
 group_at-returns-in_err-m t c =
     let x = c.args in
-    let y : Reading Tokens = token x.long (group x.long (x.levels - 1) x.s.now) x.s.now c.separators_end-i.result (leb GRPGTCNT x.tokens) (places_of x.names.now x.places) x.tokens in
+    let y : Reading Tokens = token x.long (group x.long (x.levels - 1) x.s.now) x.s.now c.separators_end-i.result (leb GRPGTCNT x.had.tokens) (places_of x.names.now x.had.places) x.had.tokens in
     rw (passed_on _ c.from_residual.ensures.1)
-    (refuses_on _ y _ _ c.in_err-m.ensures (group_some x.long x.levels x.s.now x.at c.separators_end-i.result _ x.tokens c.if-levels-eq0.false c.separators_end-i.ensures))
+    (refuses_on _ y _ _ c.in_err-m.ensures (group_some x.long x.levels x.s.now x.at c.separators_end-i.result _ x.had.tokens c.if-levels-eq0.false c.separators_end-i.ensures))
 
 pub group_at-loop-u-init : goal.group_at-loop-u-init
 group_at-loop-u-init t c = so_first _ _ _ _ _ _ _
@@ -48,7 +48,7 @@ group_at-next_at-requires t c =
     let x = c.args in
     let some = c.if-levels-eq0.false in
     let b =
-    group_begun x.long x.levels x.s.now x.at c.separators_end-i.result (places_of x.names.now x.places) x.tokens (x.places + 1) x.table.now x.code _ _ c.in_ok-m.m c.in_ok-m.ensures
+    group_begun x.long x.levels x.s.now x.at c.separators_end-i.result (places_of x.names.now x.had.places) x.had.tokens (x.had.places + 1) x.table.now x.had.code _ _ c.in_ok-m.m c.in_ok-m.ensures
     c.if-levels-eq0.false c.separators_end-i.ensures in
     let within = so_in _ _ _ _ _ _ _ _ _ _ _ _ c.loop-u.invariant _ _ _ b.0 b.1 in
     (omega (arith, c.decreases), ((within.0, c.requires.at_in_bounds.1), (within.1, within.2)))
@@ -57,7 +57,7 @@ pub group_at-returns-in-Closed : goal.group_at-returns-in-Closed
 group_at-returns-in-Closed t c =
     let x = c.args in
     let b =
-    group_begun x.long x.levels x.s.now x.at c.separators_end-i.result (places_of x.names.now x.places) x.tokens (x.places + 1) x.table.now x.code _ _ c.in_ok-m.m c.in_ok-m.ensures
+    group_begun x.long x.levels x.s.now x.at c.separators_end-i.result (places_of x.names.now x.had.places) x.had.tokens (x.had.places + 1) x.table.now x.had.code _ _ c.in_ok-m.m c.in_ok-m.ensures
     c.if-levels-eq0.false c.separators_end-i.ensures in
     so_closed _ _ _ _ _ _ _ _ _ _ _ _ c.loop-u.invariant _ _ _ _ _ b.0 b.1 _ b.2 _ (λ T n d u K. rw c.in-Closed.is at (c.in_ok-u.ensures T n d u K))
 
@@ -65,7 +65,7 @@ pub group_at-returns-in_err-u : goal.group_at-returns-in_err-u
 group_at-returns-in_err-u t c =
     let x = c.args in
     let b =
-    group_begun x.long x.levels x.s.now x.at c.separators_end-i.result (places_of x.names.now x.places) x.tokens (x.places + 1) x.table.now x.code _ _ c.in_ok-m.m c.in_ok-m.ensures
+    group_begun x.long x.levels x.s.now x.at c.separators_end-i.result (places_of x.names.now x.had.places) x.had.tokens (x.had.places + 1) x.table.now x.had.code _ _ c.in_ok-m.m c.in_ok-m.ensures
     c.if-levels-eq0.false c.separators_end-i.ensures in
     rw (passed_on _ c.from_residual-in_err-u.ensures.1) (so_unfit _ _ _ _ _ _ _ _ _ _ _ _ c.loop-u.invariant _ _ _ b.0 b.1 _ b.2 _ c.in_err-u.ensures)
 
@@ -73,7 +73,7 @@ pub group_at-loop-u-preserved : goal.group_at-loop-u-preserved
 group_at-loop-u-preserved t c =
     let x = c.args in
     let b =
-    group_begun x.long x.levels x.s.now x.at c.separators_end-i.result (places_of x.names.now x.places) x.tokens (x.places + 1) x.table.now x.code _ _ c.in_ok-m.m c.in_ok-m.ensures
+    group_begun x.long x.levels x.s.now x.at c.separators_end-i.result (places_of x.names.now x.had.places) x.had.tokens (x.had.places + 1) x.table.now x.had.code _ _ c.in_ok-m.m c.in_ok-m.ensures
     c.if-levels-eq0.false c.separators_end-i.ensures in
     (so_joined _ _ _ _ _ _ _ _ _ _ _ _ c.loop-u.invariant _ _ _ _ _ b.0 b.1 _ _ (λ T n d u K. rw c.in-Joined.is at (c.in_ok-u.ensures T n d u K))).1
 
@@ -134,7 +134,7 @@ next_at-returns t c T n d u K =
 pub token_at-returns-then-is_letter : goal.token_at-returns-then-is_letter
 token_at-returns-then-is_letter t c =
     let x = c.args in
-    rw (token_name_lem x.long (group x.long x.levels x.s.now) x.s.now x.at c.byte-b.result x.full c.is_letter.result _ x.tokens c.byte-b.ensures c.is_letter.ensures c.if-is_letter.true)
+    rw (token_name_lem x.long (group x.long x.levels x.s.now) x.s.now x.at c.byte-b.result x.full c.is_letter.result _ x.had.tokens c.byte-b.ensures c.is_letter.ensures c.if-is_letter.true)
     c.name_token.ensures
 
 pub token_at-data_token-requires : goal.token_at-data_token-requires
@@ -146,14 +146,14 @@ token_at-data_token-requires t c =
 pub token_at-returns-then-b-eq35 : goal.token_at-returns-then-b-eq35
 token_at-returns-then-b-eq35 t c =
     let x = c.args in
-    rw (token_data x.long (group x.long x.levels x.s.now) x.s.now x.at c.byte-b.result x.full c.is_letter.result _ x.tokens c.byte-b.ensures c.is_letter.ensures c.if-is_letter.false c.if-b-eq35.true)
+    rw (token_data x.long (group x.long x.levels x.s.now) x.s.now x.at c.byte-b.result x.full c.is_letter.result _ x.had.tokens c.byte-b.ensures c.is_letter.ensures c.if-is_letter.false c.if-b-eq35.true)
     c.data_token.ensures
 
 pub token_at-returns-then-full : goal.token_at-returns-then-full
 token_at-returns-then-full t c =
     let x = c.args in
     refuses _ c.at.ensures
-    (token_full x.long (group x.long x.levels x.s.now) x.s.now x.at c.byte-b.result x.full c.is_letter.result _ x.tokens c.byte-b.ensures c.is_letter.ensures c.if-is_letter.false c.if-b-eq35.false c.if-b-eq40.true c.if-full.true)
+    (token_full x.long (group x.long x.levels x.s.now) x.s.now x.at c.byte-b.result x.full c.is_letter.result _ x.had.tokens c.byte-b.ensures c.is_letter.ensures c.if-is_letter.false c.if-b-eq35.false c.if-b-eq40.true c.if-full.true)
 
 pub token_at-group_at-requires : goal.token_at-group_at-requires
 token_at-group_at-requires t c =
@@ -166,27 +166,27 @@ pub token_at-returns-in_err-m : goal.token_at-returns-in_err-m
 token_at-returns-in_err-m t c =
     let x = c.args in
     rw (passed_on _ c.from_residual.ensures.1)
-    (refuses_on _ (group x.long x.levels x.s.now x.at (places_of x.names.now x.places) (x.tokens + 1)) _ _ c.in_err-m.ensures
-    (token_group_lem x.long (group x.long x.levels x.s.now) x.s.now x.at c.byte-b.result x.full c.is_letter.result _ x.tokens c.byte-b.ensures c.is_letter.ensures c.if-is_letter.false c.if-b-eq35.false c.if-b-eq40.true c.if-full.false))
+    (refuses_on _ (group x.long x.levels x.s.now x.at (places_of x.names.now x.had.places) (x.had.tokens + 1)) _ _ c.in_err-m.ensures
+    (token_group_lem x.long (group x.long x.levels x.s.now) x.s.now x.at c.byte-b.result x.full c.is_letter.result _ x.had.tokens c.byte-b.ensures c.is_letter.ensures c.if-is_letter.false c.if-b-eq35.false c.if-b-eq40.true c.if-full.false))
 
 pub token_at-with_occurrence-requires : goal.token_at-with_occurrence-requires
 token_at-with_occurrence-requires t c =
     let x = c.args in
-    let within = read_in_lem _ _ _ _ c.in_ok-m.m (group x.long x.levels x.s.now x.at (places_of x.names.now x.places) (x.tokens + 1)) c.in_ok-m.ensures in
+    let within = read_in_lem _ _ _ _ c.in_ok-m.m (group x.long x.levels x.s.now x.at (places_of x.names.now x.had.places) (x.had.tokens + 1)) c.in_ok-m.ensures in
     record { at_in_bounds = within.0; places_bound = omega (arith, within.1) }
 
 pub token_at-returns-then-b-eq40 : goal.token_at-returns-then-b-eq40
 token_at-returns-then-b-eq40 t c =
     let x = c.args in
-    read_then _ _ _ _ c.in_ok-m.m (group x.long x.levels x.s.now x.at (places_of x.names.now x.places) (x.tokens + 1)) c.in_ok-m.ensures c.with_occurrence.result _ _ (occurrence x.s.now) _
-    (token_group_lem x.long (group x.long x.levels x.s.now) x.s.now x.at c.byte-b.result x.full c.is_letter.result _ x.tokens c.byte-b.ensures c.is_letter.ensures c.if-is_letter.false c.if-b-eq35.false c.if-b-eq40.true c.if-full.false)
-    (λ w K. c.with_occurrence.ensures _ _ _ (4 * x.tokens + 3) w (keeps_less _ _ _ _ (4 * (x.tokens + 1) + 2) (4 * x.tokens + 3 + 2) 1 0 _ _ _ w (omega arith) K))
+    read_then _ _ _ _ c.in_ok-m.m (group x.long x.levels x.s.now x.at (places_of x.names.now x.had.places) (x.had.tokens + 1)) c.in_ok-m.ensures c.with_occurrence.result _ _ (occurrence x.s.now) _
+    (token_group_lem x.long (group x.long x.levels x.s.now) x.s.now x.at c.byte-b.result x.full c.is_letter.result _ x.had.tokens c.byte-b.ensures c.is_letter.ensures c.if-is_letter.false c.if-b-eq35.false c.if-b-eq40.true c.if-full.false)
+    (λ w K. c.with_occurrence.ensures _ _ _ (4 * x.had.tokens + 3) w (keeps_less _ _ _ _ (4 * (x.had.tokens + 1) + 2) (4 * x.had.tokens + 3 + 2) 1 0 _ _ _ w (omega arith) K))
 
 pub token_at-returns-then-b-eq91 : goal.token_at-returns-then-b-eq91
 token_at-returns-then-b-eq91 t c =
     let x = c.args in
     refuses _ c.at-then-b-eq91.ensures
-    (token_unfit x.long (group x.long x.levels x.s.now) x.s.now x.at c.byte-b.result x.full c.is_letter.result _ x.tokens c.byte-b.ensures c.is_letter.ensures c.if-is_letter.false c.if-b-eq35.false c.if-b-eq40.false
+    (token_unfit x.long (group x.long x.levels x.s.now) x.s.now x.at c.byte-b.result x.full c.is_letter.result _ x.had.tokens c.byte-b.ensures c.is_letter.ensures c.if-is_letter.false c.if-b-eq35.false c.if-b-eq40.false
     (elim c.then-b-eq91.branch [
       | token_at-then-b-eq91-via-then-b-eq91 w ↦ or_left _ (eq-eqb _ _ w.if-b-eq91.true)
       | token_at-then-b-eq91-via-else-b-eq91+then-b-eq37 w ↦ sym (or_passed _ _ _ (ne_eqb _ _ w.if-b-eq91.false) (sym (eq-eqb _ _ w.if-b-eq37.true)))
@@ -196,5 +196,5 @@ pub token_at-returns : goal.token_at-returns
 token_at-returns t c =
     let x = c.args in
     refuses _ c.at-2.ensures
-    (token_other x.long (group x.long x.levels x.s.now) x.s.now x.at c.byte-b.result x.full c.is_letter.result _ x.tokens c.byte-b.ensures c.is_letter.ensures c.if-is_letter.false c.if-b-eq35.false c.if-b-eq40.false
+    (token_other x.long (group x.long x.levels x.s.now) x.s.now x.at c.byte-b.result x.full c.is_letter.result _ x.had.tokens c.byte-b.ensures c.is_letter.ensures c.if-is_letter.false c.if-b-eq35.false c.if-b-eq40.false
     (sym (or_passed _ _ _ (ne_eqb _ _ c.if-b-eq91.false) (sym (ne_eqb _ _ c.if-b-eq37.false)))))
