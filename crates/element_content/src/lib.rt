@@ -6,6 +6,7 @@ ghost use Rattle.rules.specs.TypeFile.{content_word, content_model, content};
 ghost use Rattle.rules.specs.Bytes.{type_limit};
 ghost use Rattle.element_content.specs.Kept.{place, wrong_word, MeetsBody};
 
+use connectors::Counts;
 use layout::{GRPLVL, MODEL, NAMES};
 use text::{Fault, Reading, Refusal};
 
@@ -91,7 +92,12 @@ fn body_model(
     ensures { MeetsBody (length s.now) names.new table.new result (content_model long s.now i) }
 {
     model_table::clear(table);
-    let g = group_reader::group_at(long, s, i, GRPLVL, 0, 0, 0, names, table)?;
+    let none = Counts {
+        places: 0,
+        tokens: 0,
+        code: 0,
+    };
+    let g = group_reader::group_at(long, s, i, GRPLVL, none, names, table)?;
     let m = connectors::with_occurrence(s, table, 1, g);
     let part = m.part;
     model_table::finish(table, part);

@@ -16,7 +16,7 @@ returns-in_err-g c =
     let r = c.group_at in
     rw (passed_on _ c.from_residual.ensures.1)
     (body_refused (length a.s.now) r.new.names r.new.table _ _
-    (model_refused a.long a.s.now a.i (refused_is (length a.s.now) (begun 1 c.clear.new.table 0 2) r.new.names r.new.table _ _ c.in_err-g.ensures)))
+    (model_refused a.long a.s.now a.i (refused_is _ _ c.in_err-g.ensures)))
 
 -- The group was read.
 pub with_occurrence-m-requires : goal.with_occurrence-m-requires
