@@ -1,34 +1,22 @@
 -- Laws of a byte 13 that is held, and of one that is ignored at once.
-use Rattle.std.specs.Prelude.{ℕ, zero, suc, ◌+◌, ◌-◌, ◌≤◌, ◌<◌, ◌≡◌, refl, Bool, true, false, not, ◌&&◌, ◌||◌, List, eqb, ltb}
+use Rattle.std.specs.Prelude.{ℕ, ◌-◌, ◌≤◌, ◌<◌, ◌≡◌, refl, Bool, true, false, not, ◌&&◌, ◌||◌, List, eqb, ltb}
 use Rattle.std.proofs.Common.{sym, ◌∙◌, arith}
 use Rattle.std.proofs.Math.Path.{ap}
-use Rattle.std.proofs.lemmas.Bool.{false≢true}
 use borrow.Author.Tests.{eqb-true, eqb-false, eq-eqb, ne_eqb, lt-ltb, le-ltb}
 use Rattle.rules.specs.Settings.{settings}
-use Rattle.rules.specs.Bytes.{byte_at, RS, RE, MDC}
+use Rattle.rules.specs.Bytes.{byte_at, RE, MDC}
 use Rattle.rules.specs.Settling.{Open}
-use Rattle.rules.specs.Records.{at_once, is_ignored, mark_behind}
+use Rattle.rules.specs.Records.{at_once, is_ignored}
 use Rattle.record_ends.specs.Held.{line_of, is_held, shown_end, Since}
 
 -- Held
 
 module _ (edition : ℕ) (d : List ℕ) where
-  pub held_first : (since : ℕ) → (edition ≡ 2 → ⊥) → is_held edition d since ≡ false
+  held_first : (since : ℕ) → (edition ≡ 2 → ⊥) → is_held edition d since ≡ false
   held_first since h = ap (λ (b : Bool). b && (ltb 0 since && eqb (byte_at d (since - 1)) RE)) (ne_eqb edition 2 h)
 
-  pub held_none : (since : ℕ) → edition ≡ 2 → since ≡ 0 → is_held edition d since ≡ false
-  held_none since h z = rw (eq-eqb edition 2 h, le-ltb 0 since (omega arith))
-
-  pub held_byte : (since : ℕ) → edition ≡ 2 → (since ≡ 0 → ⊥) → is_held edition d since ≡ eqb (byte_at d (since - 1)) RE
+  held_byte : (since : ℕ) → edition ≡ 2 → (since ≡ 0 → ⊥) → is_held edition d since ≡ eqb (byte_at d (since - 1)) RE
   held_byte since h some = rw (eq-eqb edition 2 h, lt-ltb 0 since (omega arith))
-
-  pub held_some : (since : ℕ) → is_held edition d since ≡ true → 1 ≤ since
-  held_some zero h = absurd (false≢true (sym (none (eqb edition 2)) ∙ h))
-    where
-      none : (b : Bool) → (b && (ltb 0 0 && eqb (byte_at d (0 - 1)) RE)) ≡ false
-      none true = refl
-      none false = refl
-  held_some (suc n) h = omega arith
 
   pub shown_short : (after : ℕ) → is_held edition d after ≡ true → shown_end edition d after ≡ after - 1
   shown_short after e = ap {B = ℕ} (λ (x : Bool). elim x as (λ _. ℕ) [ true ↦ after - 1 | false ↦ after ]) e
@@ -78,17 +66,3 @@ module _ (long edition : ℕ) (d : List ℕ) (at since mark : ℕ) (o : Open) wh
 
         pub ignored_held : (u ≡ 0 → ⊥) → since ≤ at → (since ≡ at → ⊥) → is_ignored (settings long edition) d at (line_of since mark) o ≡ is_held edition d since
         ignored_held n l z = plain ∙ rw (ne_eqb u 0 n, lt-ltb since at (omega arith)) (sym (held_byte edition d since second (λ e. n (eqb-true u 0 (sym s.fresh ∙ s.begun e)))))
-
--- Where the last byte 10 or 13 ended that was ignored.
-module _ (d : List ℕ) (at mark : ℕ) where
-  marks : {x : Bool} → (eqb (byte_at d at) RS || eqb (byte_at d at) RE) ≡ x → mark_behind d at mark ≡ elim x as (λ _. ℕ) [ true ↦ at + 1 | false ↦ mark ]
-  marks e = ap (λ (x : Bool). elim x as (λ _. ℕ) [ true ↦ at + 1 | false ↦ mark ]) e
-
-  pub mark_start : byte_at d at ≡ RS → mark_behind d at mark ≡ at + 1
-  mark_start b = marks {x = true} (rw (eq-eqb (byte_at d at) RS b))
-
-  pub mark_end : (byte_at d at ≡ RS → ⊥) → byte_at d at ≡ RE → mark_behind d at mark ≡ at + 1
-  mark_end n b = marks {x = true} (rw (ne_eqb (byte_at d at) RS n, eq-eqb (byte_at d at) RE b))
-
-  pub mark_kept : (byte_at d at ≡ RS → ⊥) → (byte_at d at ≡ RE → ⊥) → mark_behind d at mark ≡ mark
-  mark_kept n m = marks {x = false} (rw (ne_eqb (byte_at d at) RS n, ne_eqb (byte_at d at) RE m))

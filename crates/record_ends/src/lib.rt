@@ -96,10 +96,7 @@ pub fn put_held(numbers: &mut [u32], bytes: &mut [u8], n: usize, from: usize, si
     let none = Place(0);
     let data = ElementNo(0);
     let size = since - from;
-    let mut k = n;
-    if 1 < size && 0 < n {
-        k -= 1;
-    }
+    let k = if 1 < size { n.saturating_sub(1) } else { n };
     event_buffer::put_event(numbers, bytes, k, Kind::Data as u32, data, from, size, none)
 }
 

@@ -4,13 +4,13 @@ use mathlib.Core.Path.{◌≡◌}
 use native.Mathlib.Omega.{arith}
 use Rattle.record_ends.specs.Whole.{puts_whole}
 use Rattle.record_ends.proofs.put_held.Goals as goal
-use Rattle.record_ends.proofs.put_held.Goals.{then-size-gt1+then-n-gt0, then-size-gt1+else-n-gt0, else-size-gt1}
+use Rattle.record_ends.proofs.put_held.Goals.{then-size-gt1, else-size-gt1}
 
 pub returns : goal.returns
 returns c = let a = c.args in
-    let few : c.if-size-gt1.k ≤ a.n = elim c.if-size-gt1.branch [ then-size-gt1+then-n-gt0 w ↦ omega arith | then-size-gt1+else-n-gt0 w ↦ omega arith | else-size-gt1 w ↦ omega arith ] in
+    let few : c.if-size-gt1.k ≤ a.n = elim c.if-size-gt1.branch [ then-size-gt1 w ↦ omega arith | else-size-gt1 w ↦ omega arith ] in
     let behind : a.since - a.from ≤ 1 → c.if-size-gt1.k ≡ a.n = λ h.
-    elim c.if-size-gt1.branch [ then-size-gt1+then-n-gt0 w ↦ omega arith | then-size-gt1+else-n-gt0 w ↦ omega arith | else-size-gt1 w ↦ omega arith ] in
+    elim c.if-size-gt1.branch [ then-size-gt1 w ↦ omega arith | else-size-gt1 w ↦ omega arith ] in
     let over : 1 < a.since - a.from → 1 ≤ a.n → suc c.if-size-gt1.k ≡ a.n = λ h some.
-    elim c.if-size-gt1.branch [ then-size-gt1+then-n-gt0 w ↦ omega arith | then-size-gt1+else-n-gt0 w ↦ omega arith | else-size-gt1 w ↦ omega arith ] in
+    elim c.if-size-gt1.branch [ then-size-gt1 w ↦ omega arith | else-size-gt1 w ↦ omega arith ] in
     puts_whole a.from a.since few behind over c.put_event.ensures.0 c.put_event.ensures.1 c.put_event.ensures.2
