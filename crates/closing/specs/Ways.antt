@@ -36,21 +36,20 @@ tag_unopened facts x at after n o numbers bytes i =
       closes = λ s es raised f M begun z st. element_shut s es (decided s es) x at after z (sym (stands_open st x) ∙ i);
     }
 
--- An end tag of an element that is open.
-module _ {facts : List ℕ} {x at : ℕ} (after : ℕ) {n : ℕ} {o : OpenElements} {numbers bytes : List ℕ} (ranged : Ranged o) (there : is_open x (bare o) ≡ true) where
-  -- It goes on from where no more ends are inferred.
-  tag_on : (s : List ℕ) (es : List Element) {M begun : List ℕ} (z : State) → Stands es M begun o z
-      → end_element s es (decided s es) x at after z ≡ and_then (inferred_from s es (decided s es) x at z) (close_on s es (decided s es) x at after)
-  tag_on s es z st =
-      element_open s es (decided s es) x at after z (sym (stands_open st x) ∙ there) ∙ close_ends_lem s es (decided s es) x at after z.around z.current z.events
+-- An end tag of an element that is open goes on from where no more ends are inferred.
+tag_on : (s : List ℕ) (es : List Element) {M begun : List ℕ} (x at after : ℕ) {o : OpenElements} → is_open x (bare o) ≡ true → (z : State) → Stands es M begun o z
+    → end_element s es (decided s es) x at after z ≡ and_then (inferred_from s es (decided s es) x at z) (close_on s es (decided s es) x at after)
+tag_on s es x at after there z st =
+    element_open s es (decided s es) x at after z (sym (stands_open st x) ∙ there) ∙ close_ends_lem s es (decided s es) x at after z.around z.current z.events
 
+module _ {facts : List ℕ} {x at : ℕ} (after : ℕ) {n : ℕ} {o : OpenElements} {numbers bytes : List ℕ} (ranged : Ranged o) (there : is_open x (bare o) ≡ true) where
   -- An end before the tag's own is refused.
   pub tag_refused : {r : Refusal} {numbers' bytes' : List ℕ} → UntilRefused facts x at n o numbers bytes r numbers' bytes' → TaggedRefused facts x at after n o numbers bytes r numbers' bytes'
   tag_refused u =
       record {
         put = u.put;
         few = omega (arith, u.few, ranged.few);
-        closes = λ s es raised f M begun z st. tag_on s es z st ∙ ap (λ (d : Reading State). and_then d (close_on s es (decided s es) x at after)) (u.ends s es raised f M begun z st);
+        closes = λ s es raised f M begun z st. tag_on s es x at after there z st ∙ ap (λ (d : Reading State). and_then d (close_on s es (decided s es) x at after)) (u.ends s es raised f M begun z st);
       }
 
   module _ {r : Outcome} {numbers' bytes' : List ℕ} (u : UntilGot facts x at n o numbers bytes r numbers' bytes') where
@@ -68,8 +67,8 @@ module _ {facts : List ℕ} {x at : ℕ} (after : ℕ) {n : ℕ} {o : OpenElemen
     tag_there : (s : List ℕ) (es : List Element) (raised : ℕ → Bool) → Facts s es raised facts → (M begun : List ℕ) (z : State) → Stands es M begun o z
         → (y : State) × StandsWith es M begun r.open (z.events ++ events) y × (end_element s es (decided s es) x at after z ≡ close_on s es (decided s es) x at after y)
     tag_there s es raised f M begun z st =
-        let (y, e, there) = u.ends s es raised f M begun z st in
-        (y, there, tag_on s es z st ∙ ap (λ (d : Reading State). and_then d (close_on s es (decided s es) x at after)) e)
+        let (y, e, here) = u.ends s es raised f M begun z st in
+        (y, here, tag_on s es x at after there z st ∙ ap (λ (d : Reading State). and_then d (close_on s es (decided s es) x at after)) e)
 
     -- Nothing is around what is left.
     pub tag_outermost : r.open.count ≡ 0 → TaggedRefused facts x at after n o numbers bytes NotOpen numbers' bytes'
@@ -120,16 +119,16 @@ module _ {facts : List ℕ} {x at : ℕ} (after : ℕ) {n : ℕ} {o : OpenElemen
 
 -- The document's end
 
-module _ {facts : List ℕ} {at n : ℕ} {o : OpenElements} {numbers bytes : List ℕ} (few : o.count ≤ TAGLVL) where
-  end_on_lem : (s : List ℕ) (es : List Element) {M begun : List ℕ} (z : State) → Stands es M begun o z → end_document s es (decided s es) at z ≡ and_then (inferred_from s es (decided s es) 0 at z) (end_on s es (decided s es) at)
-  end_on_lem s es z st = document_end s es (decided s es) at z ∙ end_ends s es (decided s es) at z.around z.current z.events (stands_numbered st)
+end_on_lem : (s : List ℕ) (es : List Element) {M begun : List ℕ} (at : ℕ) {o : OpenElements} (z : State) → Stands es M begun o z → end_document s es (decided s es) at z ≡ and_then (inferred_from s es (decided s es) 0 at z) (end_on s es (decided s es) at)
+end_on_lem s es at z st = document_end s es (decided s es) at z ∙ end_ends s es (decided s es) at z.around z.current z.events (stands_numbered st)
 
+module _ {facts : List ℕ} {at n : ℕ} {o : OpenElements} {numbers bytes : List ℕ} (few : o.count ≤ TAGLVL) where
   pub end_refused : {r : Refusal} {numbers' bytes' : List ℕ} → UntilRefused facts 0 at n o numbers bytes r numbers' bytes' → FinishedRefused facts at n o numbers bytes r numbers' bytes'
   end_refused u =
       record {
         put = u.put;
         few = omega (arith, u.few, few);
-        ends = λ s es raised f M begun z st. end_on_lem s es z st ∙ ap (λ (d : Reading State). and_then d (end_on s es (decided s es) at)) (u.ends s es raised f M begun z st);
+        ends = λ s es raised f M begun z st. end_on_lem s es at z st ∙ ap (λ (d : Reading State). and_then d (end_on s es (decided s es) at)) (u.ends s es raised f M begun z st);
       }
 
   module _ {r : Outcome} {numbers' bytes' : List ℕ} (u : UntilGot facts 0 at n o numbers bytes r numbers' bytes') where
@@ -147,7 +146,7 @@ module _ {facts : List ℕ} {at n : ℕ} {o : OpenElements} {numbers bytes : Lis
         let outside : r.open.count ≡ 0 = none_there r.open.count (λ l. omega (arith, stands_element there.0 l, u.reached l)) in (
           y,
           there,
-          end_on_lem s es z st
+          end_on_lem s es at z st
               ∙ ap (λ (d : Reading State). and_then d (end_on s es (decided s es) at)) e
               ∙ ap (λ (os : List rules.Open). end_from s es (decided s es) at os y.current y.events) (stands_alone there.0 outside),
         )

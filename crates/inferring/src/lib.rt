@@ -103,5 +103,5 @@ pub fn infer_start(
         0,
         shown,
     );
-    state.start_required(t.rows, t.members, begun, k)
+    state.start_required(t, begun, k)
 }

@@ -9,18 +9,20 @@ use Rattle.rules.specs.Events.{Event, start_written, data_run, end_of_empty}
 use Rattle.rules.specs.Settling.{State, take_place, shown, place_taken, enter, limited}
 use Rattle.rules.specs.Records.{due_run}
 use Rattle.rules.specs.Bytes.{GRPGTCNT, TAGLVL, element_limit}
+use Rattle.text.specs.declared.Refusal.TheVariants.{NotAllowedHere, TooDeep}
 use Rattle.document_laws.specs.Decide.{decided}
 use Rattle.document_laws.specs.Moves.{state, place_taken_took}
 use Rattle.type_tables.specs.Tables.{name_number, Declares, Tables, CanTake}
 use Rattle.open_elements.specs.declared.OpenElements.{OpenElements}
 use Rattle.open_elements.specs.declared.Outcome.{Outcome}
-use Rattle.open_elements.specs.Stands.{Becomes, Ranged, Stands, Taking}
+use Rattle.open_elements.specs.Stands.{Ranged, Stands, Taking}
+use Rattle.open_elements.specs.Becomes.{Got}
 use Rattle.open_elements.specs.Methods.{stands_deep, stands_noted, stands_opening, ranged_taking, ranged_opening}
 use Rattle.event_buffer.specs.Buffers.{noted, Puts}
 use Rattle.event_buffer.specs.EventByEvent.{puts_none, puts_then}
 use Rattle.ways.specs.declared.Way.{Way}
 use Rattle.ways.specs.Asks.{token_of, token_of_number, token_of_declared, place_of}
-use Rattle.placing.specs.Noting.{noting, Opens, written_of, shown_of, Writes, entering, Notes, Placed, opened_by, Follows, Places}
+use Rattle.placing.specs.Noting.{noting, Opens, written_of, shown_of, Writes, entering, PlacedGot, PlacedRefused, opened_by, Follows, Places}
 use Rattle.basic_laws.specs.Truth.{not_both}
 use Rattle.record_due.specs.Lists.{no_run, run_whole}
 
@@ -133,61 +135,44 @@ shows {z = z} stands p same = place_taken_took z.current p ∙ ap (λ k. shown k
 
 -- What the code does with the place p
 
-module _ {rows places facts : List ℕ} (M begun : List ℕ) {found : Way} {x at to n : ℕ} {o : OpenElements} (h : Ranged o) {numbers bytes : List ℕ} {p : ℕ} (asked : Asked rows places facts found x o.element.0 p) where
-  pub placed_nowhere : p ≡ 0 → Placed rows places facts M begun found x at to n o numbers bytes (record { «open» = o; events = n; number = 12 }) begun numbers bytes
+module _ {rows places facts : List ℕ} (M begun : List ℕ) {found : Way} {x at to n : ℕ} {o : OpenElements} {numbers bytes : List ℕ} {p : ℕ} (asked : Asked rows places facts found x o.element.0 p) where
+  pub placed_nowhere : p ≡ 0 → PlacedRefused rows places facts M begun found x at to o numbers bytes NotAllowedHere begun numbers bytes
   placed_nowhere z =
       record {
-        ranged = h;
         small = omega arith;
-        whole = refl;
-        events = [];
-        puts = puts_none numbers bytes n;
-        counted = omega arith;
-        few = omega arith;
-        opens = false;
-        taken = 0;
-        written = λ e. absurd (omega arith);
+        begun_same = refl;
+        numbers_same = refl;
+        bytes_same = refl;
         p = p;
         place = place_of_lem asked M;
         stuck = λ z. refl;
-        taking = λ e. absurd (omega arith);
-        room = λ e. absurd (omega arith);
         notes = λ some. absurd (some z);
       }
 
   module _ (some : p ≡ 0 → ⊥) {full : Bool} (fills : (x ≡ 0 → full ≡ false) × ((x ≡ 0 → ⊥) → full ≡ leb TAGLVL o.count)) where
-    pub placed_full : full ≡ true → Placed rows places facts M begun found x at to n o numbers bytes (record { «open» = o; events = n; number = 15 }) begun numbers bytes
+    pub placed_full : full ≡ true → PlacedRefused rows places facts M begun found x at to o numbers bytes TooDeep begun numbers bytes
     placed_full e =
         let element : x ≡ 0 → ⊥ = (λ z. not_both (fills.0 z) e) in
         record {
-          ranged = h;
           small = omega arith;
-          whole = refl;
-          events = [];
-          puts = puts_none numbers bytes n;
-          counted = omega arith;
-          few = omega arith;
-          opens = false;
-          taken = 0;
-          written = λ e. absurd (omega arith);
+          begun_same = refl;
+          numbers_same = refl;
+          bytes_same = refl;
           p = p;
           place = place_of_lem asked M;
           stuck = λ z. absurd (some z);
-          taking = λ e. absurd (omega arith);
-          room = λ e. absurd (omega arith);
           notes = λ i s es tables z stands can most after ends.
               let many = leb-true TAGLVL o.count (sym (fills.1 element) ∙ e) in
-              subst (Becomes at 15 (Notes es x (take_place p z) (written_of x false 0 at after))) (sym (noting_full es at after (take_place p z) x element (omega (arith, stands_deep stands)))) (refl, omega arith, refl);
+              noting_full es at after (take_place p z) x element (omega (arith, stands_deep stands));
         }
 
-    pub placed_taken : full ≡ false → p ≤ GRPGTCNT → {q : OpenElements} {begun' : List ℕ} → Taking rows M begun p o q begun' → {v : ℕ} → v ≡ shown o.element.0 p
+    pub placed_taken : Ranged o → full ≡ false → p ≤ GRPGTCNT → {q : OpenElements} {begun' : List ℕ} → Taking rows M begun p o q begun' → {v : ℕ} → v ≡ shown o.element.0 p
         → {m : ℕ} {numbers' bytes' : List ℕ} → Writes facts x v at to n numbers bytes m numbers' bytes'
-        → Placed rows places facts M begun found x at to n o numbers bytes (record { «open» = q; events = m; number = 0 }) begun' numbers' bytes'
-    placed_taken roomy within took {v} same w =
+        → PlacedGot rows places facts M begun found x at to n o numbers bytes (record { «open» = q; events = m }) begun' numbers' bytes'
+    placed_taken h roomy within took {v} same w =
         let less : (x ≡ 0 → ⊥) → o.count < TAGLVL = room fills.1 roomy in
         record {
           ranged = ranged_taking took h within;
-          small = omega arith;
           whole = took.whole;
           events = shown_of x w.b v at to;
           puts = w.puts;
@@ -195,47 +180,30 @@ module _ {rows places facts : List ℕ} (M begun : List ℕ) {found : Way} {x at
           few = shown_few x w.b v at to;
           opens = w.b;
           taken = v;
-          written = λ e. refl;
+          written = refl;
           p = p;
           place = place_of_lem asked M;
-          stuck = λ z. absurd (some z);
-          taking = λ e. took;
-          room = λ e element. omega (arith, less element, took.count);
-          notes = λ i s es tables z stands can most after ends.
+          some = some;
+          taking = took;
+          room = λ element. omega (arith, less element, took.count);
+          notes = λ s es tables z stands can most after ends.
               let y = take_place p z in
               let deep = stands_deep stands in
               let model : (x ≡ 0 → ⊥) → (length y.around < TAGLVL) × (has_model (content_of es x) ≡ w.b) = (λ element. (omega (arith, deep, less element), model_is w.opens tables element most refl)) in
               let noted = noting_notes es at after y x w.b (omega (arith, deep, stands.few)) model ∙ ap (λ (k : ℕ). got (state (entering es x y).current (entering es x y).around (y.events ++ written_of x w.b k at after))) (shows stands p same) in
-              subst (Becomes at 0 (Notes es x y (written_of x w.b v at after))) (sym noted) (refl, refl);
+              (_, noted, refl);
         }
-
--- What has become of the token holds of more, where it is not refused.
-pub becomes_more : {P Q : State → Type 0} (at n : ℕ) (q : Reading State) → (n ≡ 0 → (y : State) → P y → Q y) → Becomes at n P q → Becomes at n Q q
-becomes_more at n (refused m k) f h = h
-becomes_more at n (got y) f h = (h.0, f h.0 y h.1)
 
 -- What the caller does with an element that opens
 
 module _ {rows places facts M begun : List ℕ} {found : Way} {x at to n : ℕ} {o : OpenElements} {numbers bytes : List ℕ} {r : Outcome} {begun' numbers' bytes' : List ℕ}
-    (h : Placed rows places facts M begun found x at to n o numbers bytes r begun' numbers' bytes') where
-  -- The token was refused.
-  pub places_refused : (r.number ≡ 0 → ⊥) → Places rows places facts M begun found x at to n o numbers bytes r r.open begun' numbers' bytes'
-  places_refused none =
-      record {
-        placed = h;
-        ranged = h.ranged;
-        notes = λ some s es tables z stands can most after ends.
-            let ev = written_of x h.opens h.taken at after in
-            becomes_more {P = Notes es x (take_place h.p z) ev} {Q = Follows es M begun' r.open z ev} at r.number (noting es x at after (take_place h.p z)) (λ e. absurd (none e))
-            (h.notes some s es tables z stands can most after ends);
-      }
-
-  module _ (fine : r.number ≡ 0) (b : Bool) (none : x ≡ 0 → b ≡ false) {q : OpenElements} (i : q ≡ opened_by rows x b r.open) where
+    (h : PlacedGot rows places facts M begun found x at to n o numbers bytes r begun' numbers' bytes') where
+  module _ (b : Bool) (none : x ≡ 0 → b ≡ false) {q : OpenElements} (i : q ≡ opened_by rows x b r.open) where
     pub opened_ranged : x ≤ element_limit → Ranged q
     opened_ranged small = rw i (by_flag b none)
       where
         by_flag : (b : Bool) → (x ≡ 0 → b ≡ false) → Ranged (opened_by rows x b r.open)
-        by_flag true none = ranged_opening rows x h.ranged (h.room fine (λ z. not_both (none z) refl)) small
+        by_flag true none = ranged_opening rows x h.ranged (h.room (λ z. not_both (none z) refl)) small
         by_flag false none = h.ranged
 
     -- By the tables of a type the element has a model, or the token is another: the open elements stand for what the rules make of it.
@@ -248,26 +216,26 @@ module _ {rows places facts M begun : List ℕ} {found : Way} {x at to n : ℕ} 
           y = take_place h.p z
 
           there : Stands es M begun' r.open y
-          there = (h.taking fine).stands s es places facts tables z stands can
+          there = h.taking.stands s es places facts tables z stands can
 
           by_flag : (b : Bool) → (x ≡ 0 → b ≡ false) → ((x ≡ 0 → ⊥) → has_model (content_of es x) ≡ b) → Stands es M begun' (opened_by rows x b r.open) (entering es x y)
           by_flag true none model =
               let element : x ≡ 0 → ⊥ = (λ z. not_both (none z) refl) in
-              rw (entering_model es y x element (model element)) (stands_opening there tables x (h.room fine element) (omega (arith, element)) most)
+              rw (entering_model es y x element (model element)) (stands_opening there tables x (h.room element) (omega (arith, element)) most)
           by_flag false none model = rw (entering_none es y x model) there
 
-      pub opened_notes : (h.p ≡ 0 → ⊥) → (after : ℕ) → (1 ≤ x → after ≡ to) → Becomes at r.number (Follows es M begun' q z (written_of x h.opens h.taken at after)) (noting es x at after (take_place h.p z))
-      opened_notes some after ends =
+      pub opened_notes : (after : ℕ) → (1 ≤ x → after ≡ to) → Got (Follows es M begun' q z (written_of x h.opens h.taken at after)) (noting es x at after (take_place h.p z))
+      opened_notes after ends =
           let y = take_place h.p z in
           let ev = written_of x h.opens h.taken at after in
-          becomes_more {P = Notes es x y ev} {Q = Follows es M begun' q z ev} at r.number (noting es x at after y)
-          (λ e w is. (subst (Stands es M begun' q) (sym is) (stands_noted opened_stands (y.events ++ ev)), ap (λ (v : State). v.events) is)) (h.notes some s es tables z stands can most after ends)
+          let (w, e, is) = h.notes s es tables z stands can most after ends in
+          (w, e, (subst (Stands es M begun' q) (sym is) (stands_noted opened_stands (y.events ++ ev)), ap (λ (v : State). v.events) is))
 
   -- Whatever the tables hold: an element that opens by the table of facts was opened.
-  pub places_opened : r.number ≡ 0 → x ≤ element_limit → (b : Bool) → Opens facts x b → {q : OpenElements} → q ≡ opened_by rows x b r.open → Places rows places facts M begun found x at to n o numbers bytes r q begun' numbers' bytes'
-  places_opened fine small b opens i =
+  pub places_opened : x ≤ element_limit → (b : Bool) → Opens facts x b → {q : OpenElements} → q ≡ opened_by rows x b r.open → Places rows places facts M begun found x at to n o numbers bytes r q begun' numbers' bytes'
+  places_opened small b opens i =
       record {
         placed = h;
-        ranged = opened_ranged fine b opens.0 i small;
-        notes = λ some s es tables z stands can most. opened_notes fine b opens.0 i tables stands can most (λ element. model_is opens tables element most refl) some;
+        ranged = opened_ranged b opens.0 i small;
+        notes = λ s es tables z stands can most. opened_notes b opens.0 i tables stands can most (λ element. model_is opens tables element most refl);
       }

@@ -91,7 +91,7 @@ pub fn placed(
         return Err(Refusal::TooDeep);
     }
     let taken = open_elements::place_shown(e, p);
-    let last = state.take(t.rows, t.members, begun, p);
+    let last = state.take(t, begun, p);
     let m = put_written(t.facts, x, taken, at, shown, n, numbers, bytes);
     Ok(Outcome {
         open: last,
