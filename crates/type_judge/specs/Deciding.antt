@@ -1,6 +1,6 @@
 -- Laws of the verdict on a type file, and of the lent buffer.
-use Rattle.std.specs.Prelude.{ℕ, ◌*◌, ◌≤◌, ◌<◌, ◌≡◌, refl, List, length, take, drop}
-use Rattle.std.proofs.Common.{ap, inl, inr, arith, length-append, take-append-drop}
+use Rattle.std.specs.Prelude.{ℕ, ◌*◌, ◌≤◌, ◌<◌, ◌≡◌, refl, List, length, take, drop, Option, Some, None, Result, Ok, Err}
+use Rattle.std.proofs.Common.{ap, arith, length-append, take-append-drop}
 use Rattle.rules.specs.Settings.{Settings}
 use Rattle.rules.specs.Lent.{Lent, standing, room, filled_with, zeroed}
 use Rattle.rules.specs.Reading.{Reading, refused, got}
@@ -9,63 +9,60 @@ use Rattle.rules.specs.Judge.{first_repeated, Legible, Refuses, Accepts, malform
 use Rattle.rules.specs.Bytes.{element_limit}
 use Rattle.numbers.specs.Stores.{records_length}
 use Rattle.text.specs.declared.Fault.{Fault}
+use Rattle.element_content.specs.Kept.{place, place_some}
 use Rattle.element_records.specs.declared.Clash.{Clash}
 use Rattle.element_records.specs.declared.Progress.{Progress}
-use Rattle.element_records.specs.declared.Step.{Step}
-use Rattle.element_records.specs.declared.Step.TheVariants.{Refused}
-use Rattle.type_judge.specs.declared.Verdict.{Verdict}
-use Rattle.type_judge.specs.declared.Verdict.TheVariants.{Accepted, Malformed, Ambiguous}
-use Rattle.element_records.specs.Progress.{Pending, KeepsProgress, step_fault}
-use Rattle.element_records.specs.Clashes.{none_so_far}
+use Rattle.type_judge.specs.declared.TypeFault.{TypeFault}
+use Rattle.element_records.specs.Progress.{Pending, KeepsProgress}
 use Rattle.attribute_lists.specs.Listed.{HeadedAs}
 use Rattle.type_file.specs.File.{MeetsFile}
-use Rattle.type_judge.specs.Decides.{answer_of, Decides}
+use Rattle.type_judge.specs.Decides.{answer_of, refusal_by, Decides}
 
 -- The verdict on a type file that was refused, or read.
 module _ (c : Settings) (s : List ℕ) (room : ℕ) (legible : Legible c s) where
-  pub decides_malformed : (elements heads : List ℕ) (r : Step) → MeetsFile c.name_length s elements heads r (type_file c.name_length s) → (f g : Fault) → r ≡ Refused f → g ≡ step_fault r → Refuses c s room (refusal g.number g.at 0 0)
-  decides_malformed elements heads r m f g e q = rw (q, e) (by_reading (type_file c.name_length s) refl (rw e at m))
+  pub decides_malformed : (elements heads : List ℕ) (f : Fault) → MeetsFile c.name_length s elements heads (Err f) (type_file c.name_length s) → Refuses c s room (refusal f.number f.at 0 0)
+  decides_malformed elements heads f m = by_reading (type_file c.name_length s) refl m
     where
-      by_reading : (x : Reading (List Element)) → type_file c.name_length s ≡ x → MeetsFile c.name_length s elements heads (Refused f) x → Refuses c s room (refusal f.number f.at 0 0)
+      by_reading : (x : Reading (List Element)) → type_file c.name_length s ≡ x → MeetsFile c.name_length s elements heads (Err f) x → Refuses c s room (refusal f.number f.at 0 0)
       by_reading (refused n k) y h = malformed legible n k y (rw (h.0, h.1))
       by_reading (got es) y h = absurd h
 
   -- An "&" is refused.
-  pub decides_repeated : (es : List Element) → type_file c.name_length s ≡ got es → (n : ℕ) → n ≡ first_repeated es → (n ≡ 0 → ⊥) → Refuses c s room (refusal 25 n 0 0)
-  decides_repeated es y n e z = repeated legible es y (omega arith) (ap (λ (k : ℕ). refusal 25 k 0 0) e)
+  pub decides_repeated : (es : List Element) → type_file c.name_length s ≡ got es → (n : ℕ) → place (first_repeated es) ≡ Some n → Refuses c s room (refusal 25 n 0 0)
+  decides_repeated es y n e =
+      let (q, z) = place_some (first_repeated es) e in
+      repeated legible es y (omega arith) (ap (λ (k : ℕ). refusal 25 k 0 0) q)
 
-  module _ (es : List Element) (y : type_file c.name_length s ≡ got es) (none : first_repeated es ≡ 0) (x : Clash) where
-    pub decides_ambiguous : Pending s x es → (x.second ≡ 0 → ⊥) → Refuses c s room (refusal 9 x.at x.first x.second)
-    decides_ambiguous (inl h) z = absurd (z h.0)
-    decides_ambiguous (inr h) z = ambiguous legible es y none x.at x.first x.second h.1 refl
+  module _ (es : List Element) (y : type_file c.name_length s ≡ got es) (none : first_repeated es ≡ 0) where
+    pub decides_ambiguous : (x : Clash) → Pending s (Some x) es → Refuses c s room (refusal 9 x.at x.first x.second)
+    decides_ambiguous x h = ambiguous legible es y none x.at x.first x.second h refl
 
-    module _ (h : Pending s x es) (z : x.second ≡ 0) where
+    module _ (h : Pending s None es) where
       pub decides_full : (n : ℕ) → n ≡ length es → room < record_width * n → Refuses c s room (refusal 19 0 0 0)
-      decides_full n e l = no_room legible es y none (none_so_far s x es z h) (rw e at l) refl
+      decides_full n e l = no_room legible es y none h (rw e at l) refl
 
-      pub decides_accepted : (elements heads : List ℕ) (p : Progress) → KeepsProgress s elements p es → HeadedAs c.name_length s heads es → record_width * p.count ≤ room → Decides c s room elements heads (Accepted p.count)
+      pub decides_accepted : (elements heads : List ℕ) (p : Progress) → KeepsProgress s elements p es → HeadedAs c.name_length s heads es → record_width * p.count ≤ room → Decides c s room elements heads (Ok p.count)
       decides_accepted elements heads p k u l =
-          let all : Accepts c s es = record { legible = legible; elements = y; unrepeated = none; unambiguous = none_so_far s x es z h } in
+          let all : Accepts c s es = record { legible = legible; elements = y; unrepeated = none; unambiguous = h } in
           (es, all, k.counted, rw k.counted at l, k.room, k.recorded, u)
 
 -- What the lent buffer holds after the verdict.
-module _ (l : Lent) (c : Settings) (s before elements heads : List ℕ) (v : Verdict) (d : Decides c s (room l before) elements heads v) where
+module _ (l : Lent) (c : Settings) (s before elements heads : List ℕ) (v : Result ℕ TypeFault) (d : Decides c s (room l before) elements heads v) where
   -- The records stand in the table, and fit the buffer.
-  pub accepted_fits : (n : ℕ) → v ≡ Accepted n → (n ≤ element_limit) × (record_width * n ≤ room l before) × (record_width * n ≤ length elements)
+  pub accepted_fits : (n : ℕ) → v ≡ Ok n → (n ≤ element_limit) × (record_width * n ≤ room l before) × (record_width * n ≤ length elements)
   accepted_fits n e =
       let (es, a, count, fits, few, w, u) = rw e at d in
       let whole = ap length (take-append-drop (record_width * length es) elements) in
       (omega arith, omega arith, omega (arith, length-append (take (record_width * length es) elements) (drop (record_width * length es) elements), ap length w, records_length es))
 
-  pub judged_accepts : (n : ℕ) (after : List ℕ) → v ≡ Accepted n → after ≡ filled_with (standing l (take (record_width * n) elements)) before → Judged l c s before (answer_of (Accepted n)) after
+  pub judged_accepts : (n : ℕ) (after : List ℕ) → v ≡ Ok n → after ≡ filled_with (standing l (take (record_width * n) elements)) before → Judged l c s before (answer_of (Ok n)) after
   judged_accepts n after e q =
       let (es, a, count, fits, few, w, u) = rw e at d in
       accepts es a fits (ap acceptance count) (rw (q, count, w))
 
-  pub judged_refuses : (after : List ℕ) → ((n : ℕ) → v ≡ Accepted n → ⊥) → after ≡ zeroed before → Judged l c s before (answer_of v) after
+  pub judged_refuses : (after : List ℕ) → ((n : ℕ) → v ≡ Ok n → ⊥) → after ≡ zeroed before → Judged l c s before (answer_of v) after
   judged_refuses after other q = by_verdict v refl d
     where
-      by_verdict : (u : Verdict) → v ≡ u → Decides c s (room l before) elements heads u → Judged l c s before (answer_of v) after
-      by_verdict (Accepted n) e h = absurd (other n e)
-      by_verdict (Malformed f) e h = rw e (refuses h q)
-      by_verdict (Ambiguous x) e h = rw e (refuses h q)
+      by_verdict : (u : Result ℕ TypeFault) → v ≡ u → Decides c s (room l before) elements heads u → Judged l c s before (answer_of v) after
+      by_verdict (Ok n) e h = absurd (other n e)
+      by_verdict (Err x) e h = rw e (refuses h q)

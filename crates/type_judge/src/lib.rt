@@ -46,17 +46,13 @@ pub fn decide_legible(
     ensures { Legible (settings_of c) s.now → Decides (settings_of c) s.now room elements.new heads.new result }
 {
     let p = type_file::file_read(c.name_length, s, elements, heads)?;
-    let clash = p.clash;
-    let second = clash.second;
-    let numbers = RECORD * p.count;
-    let at = p.repeated;
-    if at != 0 {
+    if let Some(at) = p.repeated {
         return Err(TypeFault::Malformed(Refusal::Repeated.at(at)));
     }
-    if second != 0 {
+    if let Some(clash) = p.clash {
         return Err(TypeFault::Ambiguous(clash));
     }
-    if room < numbers {
+    if room < RECORD * p.count {
         return Err(TypeFault::Malformed(Refusal::NoRoom.at(0)));
     }
     Ok(p.count)

@@ -37,23 +37,23 @@ returns-then-c-eq63 c es ls k h = let a = c.args in
     let b = c.byte-b.ensures in
     let d = c.byte-c.ensures in
     step_refused a.long a.s.now a.elements.now a.heads.now a.i 5 a.i _ _
-    (declaration_instruction a.long a.s.now a.i _ es ls b _ d c.if-b-eq60.true c.if-c-eq63.true) c.refusal.ensures
+    (declaration_instruction a.long a.s.now a.i _ es ls b _ d c.if-b-eq60.true c.if-c-eq63.true) c.at.ensures
 
 pub returns-then-b-eq60 : goal.returns-then-b-eq60
 returns-then-b-eq60 c es ls k h = let a = c.args in
     let b = c.byte-b.ensures in
     let d = c.byte-c.ensures in
     step_refused a.long a.s.now a.elements.now a.heads.now a.i 4 (a.i + 1) _ _
-    (declaration_tag a.long a.s.now a.i _ es ls b _ d c.if-b-eq60.true c.if-c-eq33.false c.if-c-eq63.false) c.refusal-then-b-eq60.ensures
+    (declaration_tag a.long a.s.now a.i _ es ls b _ d c.if-b-eq60.true c.if-c-eq33.false c.if-c-eq63.false) c.at-then-b-eq60.ensures
 
 pub returns-then-b-eq37 : goal.returns-then-b-eq37
 returns-then-b-eq37 c es ls k h = let a = c.args in
     let b = c.byte-b.ensures in
     step_refused a.long a.s.now a.elements.now a.heads.now a.i 5 a.i _ _
-    (declaration_reference a.long a.s.now a.i _ es ls b c.if-b-eq37.true) c.refusal-then-b-eq37.ensures
+    (declaration_reference a.long a.s.now a.i _ es ls b c.if-b-eq37.true) c.at-then-b-eq37.ensures
 
 pub returns : goal.returns
 returns c es ls k h = let a = c.args in
     let b = c.byte-b.ensures in
     step_refused a.long a.s.now a.elements.now a.heads.now a.i 4 a.i _ _
-    (declaration_other a.long a.s.now a.i _ es ls b c.if-b-eq60.false c.if-b-eq37.false) c.refusal-2.ensures
+    (declaration_other a.long a.s.now a.i _ es ls b c.if-b-eq60.false c.if-b-eq37.false) c.at-2.ensures

@@ -1,9 +1,9 @@
 -- `markup_at` meets its contract: each way by the tests that led there.
 use Prim.Native.Nat.{◌+◌}
-use mathlib.Core.Path.{sym, ◌∙◌}
+use mathlib.Core.Path.{refl, sym, ◌∙◌}
 use native.Mathlib.Omega.{arith}
 use Rattle.rules.specs.Bytes.{MDC}
-use Rattle.text.specs.Words.{byte_is_in}
+use Rattle.text.specs.Words.{byte_is_in, passed_on}
 use Rattle.type_file.specs.Declarations.{step_refused, step_onward, markup_none, markup_dash, markup_comment, markup_section, markup_keyword, markup_other, comment_opens, comment_refused, comment_onward}
 use Rattle.type_file.proofs.markup_at.Goals as goal
 
@@ -19,31 +19,31 @@ returns-then-byte-ne45 c es ls k h = let a = c.args in
     let b = c.byte-b.ensures in
     let d = c.byte.ensures in
     step_refused a.long a.s.now a.elements.now a.heads.now a.i 4 (a.i + 3) _ _
-    (markup_dash a.long a.s.now a.i _ es ls b _ d c.if-b-eq45.true c.if-byte-ne45.true) c.refusal.ensures
+    (markup_dash a.long a.s.now a.i _ es ls b _ d c.if-b-eq45.true c.if-byte-ne45.true) c.at.ensures
 
-pub comment_end-r-requires : goal.comment_end-r-requires
-comment_end-r-requires c = comment_opens c.args.s.now c.args.i (sym c.byte-b.ensures ∙ c.if-b-eq45.true) (sym c.byte.ensures ∙ c.if-byte-ne45.false)
+pub comment_end-requires : goal.comment_end-requires
+comment_end-requires c = comment_opens c.args.s.now c.args.i (sym c.byte-b.ensures ∙ c.if-b-eq45.true) (sym c.byte.ensures ∙ c.if-byte-ne45.false)
 
-pub returns-in_default : goal.returns-in_default
-returns-in_default c es ls k h = let a = c.args in
+pub returns-in_err-j : goal.returns-in_err-j
+returns-in_err-j c es ls k h = let a = c.args in
     let b = c.byte-b.ensures in
     let d = c.byte.ensures in
-    comment_refused a.long a.s.now a.elements.now a.heads.now a.i a.p es ls _ _
-    (markup_comment a.long a.s.now a.i _ es ls b _ d c.if-b-eq45.true _ c.if-byte-ne45.false c.comment_end-r.ensures) _ _
-    c.in_default.is c.fault_of.ensures
+    comment_refused a.long a.s.now a.elements.now a.heads.now a.i es ls _ _
+    (markup_comment a.long a.s.now a.i _ es ls b _ d c.if-b-eq45.true _ c.if-byte-ne45.false refl) _ _
+    c.in_err-j.ensures (passed_on _ c.from_residual.ensures.1)
 
 pub returns-then-b-eq45 : goal.returns-then-b-eq45
 returns-then-b-eq45 c es ls k h = let a = c.args in
     let b = c.byte-b.ensures in
     let d = c.byte.ensures in
-    let e = c.comment_end-r.ensures in
-    comment_onward a.long a.s.now a.elements.now a.heads.now a.i a.p es ls _ _
-    (markup_comment a.long a.s.now a.i _ es ls b _ d c.if-b-eq45.true _ c.if-byte-ne45.false e) _ _ (comment_opens c.args.s.now c.args.i (sym c.byte-b.ensures ∙ c.if-b-eq45.true) (sym c.byte.ensures ∙ c.if-byte-ne45.false)) c.in-At.is e k h c.onward-then-b-eq45.ensures
+    comment_onward a.long a.s.now a.elements.now a.heads.now a.i es ls _ _
+    (markup_comment a.long a.s.now a.i _ es ls b _ d c.if-b-eq45.true _ c.if-byte-ne45.false refl) _ a.p _
+    (comment_opens c.args.s.now c.args.i (sym c.byte-b.ensures ∙ c.if-b-eq45.true) (sym c.byte.ensures ∙ c.if-byte-ne45.false)) c.in_ok-j.ensures refl k h c.onward-then-b-eq45.ensures
 
 pub returns-then-b-eq91 : goal.returns-then-b-eq91
 returns-then-b-eq91 c es ls k h = let a = c.args in
     let b = c.byte-b.ensures in
-    step_refused a.long a.s.now a.elements.now a.heads.now a.i 5 a.i _ _ (markup_section a.long a.s.now a.i _ es ls b c.if-b-eq91.true) c.refusal-then-b-eq91.ensures
+    step_refused a.long a.s.now a.elements.now a.heads.now a.i 5 a.i _ _ (markup_section a.long a.s.now a.i _ es ls b c.if-b-eq91.true) c.at-then-b-eq91.ensures
 
 pub keyword_at-requires : goal.keyword_at-requires
 keyword_at-requires c = c.requires
@@ -60,4 +60,4 @@ returns c es ls k h = let a = c.args in
     let b = c.byte-b.ensures in
     let l = sym c.is_letter.ensures ∙ c.if-is_letter.false in
     step_refused a.long a.s.now a.elements.now a.heads.now a.i 4 (a.i + 2) _ _
-    (markup_other a.long a.s.now a.i _ es ls b c.if-b-eq62.false c.if-b-eq45.false c.if-b-eq91.false l) c.refusal-2.ensures
+    (markup_other a.long a.s.now a.i _ es ls b c.if-b-eq62.false c.if-b-eq45.false c.if-b-eq91.false l) c.at-2.ensures

@@ -10,22 +10,22 @@ pub overflow_mul-n : goal.overflow_mul-n
 overflow_mul-n c =
     let a = c.args in
     let d = c.decide-v in
-    omega (arith, accepted_fits numbers (settings_of a.c) a.s.now a.buffer.now d.new.elements d.new.heads d.result d.ensures c.in-Accepted.n c.in-Accepted.is)
+    omega (arith, accepted_fits numbers (settings_of a.c) a.s.now a.buffer.now d.new.elements d.new.heads d.result d.ensures c.in-Ok.n c.in-Ok.is)
 
 pub put_numbers-requires : goal.put_numbers-requires
 put_numbers-requires c =
     let a = c.args in
     let d = c.decide-v in
-    omega (arith, accepted_fits numbers (settings_of a.c) a.s.now a.buffer.now d.new.elements d.new.heads d.result d.ensures c.in-Accepted.n c.in-Accepted.is)
+    omega (arith, accepted_fits numbers (settings_of a.c) a.s.now a.buffer.now d.new.elements d.new.heads d.result d.ensures c.in-Ok.n c.in-Ok.is)
 
-pub returns-in-Accepted : goal.returns-in-Accepted
-returns-in-Accepted c =
+pub returns-in-Ok : goal.returns-in-Ok
+returns-in-Ok c =
     let a = c.args in
     let d = c.decide-v in
-    judged_accepts numbers (settings_of a.c) a.s.now a.buffer.now d.new.elements d.new.heads d.result d.ensures _ _ c.in-Accepted.is c.put_numbers.ensures
+    judged_accepts numbers (settings_of a.c) a.s.now a.buffer.now d.new.elements d.new.heads d.result d.ensures _ _ c.in-Ok.is c.put_numbers.ensures
 
 pub returns-in_default : goal.returns-in_default
 returns-in_default c =
     let a = c.args in
     let d = c.decide-v in
-    judged_refuses numbers (settings_of a.c) a.s.now a.buffer.now d.new.elements d.new.heads d.result d.ensures _ c.in_default.not-Accepted (c.fill.ensures.after (λ y e. e))
+    judged_refuses numbers (settings_of a.c) a.s.now a.buffer.now d.new.elements d.new.heads d.result d.ensures _ c.in_default.not-Ok (c.fill.ensures.after (λ y e. e))
