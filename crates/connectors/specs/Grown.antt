@@ -1,5 +1,5 @@
 -- Laws of what is kept as a model grows: by an occurrence indicator, or a group that is joined.
-use Rattle.std.specs.Prelude.{ℕ, ◌+◌, ◌*◌, ◌≤◌, ◌<◌, ◌≡◌, refl, true, List, [], ◌∷◌, ◌++◌, length}
+use Rattle.std.specs.Prelude.{ℕ, ◌+◌, ◌*◌, ◌≤◌, ◌<◌, ◌≡◌, refl, true, false, List, [], ◌∷◌, ◌++◌, length, eqb}
 use Rattle.std.proofs.Common.{sym, ap, ◌∙◌, append_assoc, arith}
 use borrow.Author.Tests.{eq-eqb, ne_eqb}
 use Rattle.model_code.specs.Codes.{ALSO_CODE, ALT_CODE, OPT_CODE, PLUS_CODE, SEQ_CODE}
@@ -18,7 +18,7 @@ use Rattle.model_table.specs.Behind.{repeated_behind}
 use Rattle.model_code.specs.Six.{put_code, code_next}
 use Rattle.model_code.specs.Spelled.{codes, code_in, code_same, put_next, put_rows, put_length, code_put}
 use Rattle.connectors.specs.declared.Model.{Model}
-use Rattle.connectors.specs.Kept.{begun, Ready, Tabled, Joins, Keeps, join_model, join_table}
+use Rattle.connectors.specs.Kept.{begun, Ready, Tabled, Joins, Keeps, join_part, join_rows, join_number, join_model, join_table}
 
 pub joins_one : (g : Group) → Joins 1 0 g
 joins_one g = record { few = omega arith; alone = λ e. refl; some = λ e. absurd (omega arith); whole = λ e. absurd (omega arith); members = λ e. absurd (omega arith) }
@@ -200,19 +200,21 @@ module _ (s : List ℕ) (lo : ℕ) (T : List ℕ) (n d : ℕ) (names table : Lis
 
 -- Two groups are joined by a connector.
 
--- What the code keeps of them.
-abbrev pub both_kept : Model → Part → (code and repeated : ℕ) → Model
-both_kept u p c a r = record { at = u.at; places = u.places; tokens = u.tokens; part = p; code = c; and = a; repeated = r }
+-- What the code makes of the connector: the part that is kept, where the "&" stands that it is, or that the second has, and its number in the code.
+module _ (b i lo : ℕ) (m u : Model) (T R : List ℕ) (v : Part × ℕ × ℕ) where
+  abbrev Joint : Type 0
+  Joint = (v ≡ (join_part b m.part u.part, (elim (eqb b AND) [ true ↦ i | false ↦ u.and ]), join_number b)) × (R ≡ join_rows b lo m u T)
 
-module _ (b i lo : ℕ) (m u : Model) (p : Part) (T R S : List ℕ) (c a r : ℕ) (C : c ≡ code_next u.code) (X : r ≡ earlier m.repeated u.repeated) where
-  pub by_seq : b ≡ SEQ → p ≡ part_seq m.part u.part → R ≡ join_seq T lo (m.places + 1) (u.places + 1) m.part u.part → S ≡ put_code R u.code SEQ_CODE → a ≡ earlier m.and u.and
-      → (both_kept u p c a r ≡ join_model b i m u) × (S ≡ join_table b lo m u T)
-  by_seq e q f g h = (rw e (cc), rw (e, g, f))
+  pub by_seq : (p : Part) → b ≡ SEQ → v ≡ (p, u.and, SEQ_CODE) → p ≡ part_seq m.part u.part → R ≡ join_seq T lo (m.places + 1) (u.places + 1) m.part u.part → Joint
+  by_seq p e q f g = (rw (q, e, f) refl, rw e g)
 
-  pub by_and : b ≡ AND → p ≡ part_and m.part u.part → R ≡ join_and T lo (m.places + 1) (u.places + 1) → S ≡ put_code R u.code ALSO_CODE → a ≡ earlier m.and i
-      → (both_kept u p c a r ≡ join_model b i m u) × (S ≡ join_table b lo m u T)
-  by_and e q f g h = (rw e (cc), rw (e, g, f))
+  pub by_and : (p : Part) → b ≡ AND → v ≡ (p, i, ALSO_CODE) → p ≡ part_and m.part u.part → R ≡ join_and T lo (m.places + 1) (u.places + 1) → Joint
+  by_and p e q f g = (rw (q, e, f) refl, rw e g)
 
-  pub by_alt : (b ≡ SEQ → ⊥) → (b ≡ AND → ⊥) → p ≡ part_alt m.part u.part → R ≡ T → S ≡ put_code R u.code ALT_CODE → a ≡ earlier m.and u.and
-      → (both_kept u p c a r ≡ join_model b i m u) × (S ≡ join_table b lo m u T)
-  by_alt d e q f g h = (rw (ne_eqb b SEQ d, ne_eqb b AND e) (cc), rw (ne_eqb b SEQ d, ne_eqb b AND e, g, f))
+  pub by_alt : (p : Part) → (b ≡ SEQ → ⊥) → (b ≡ AND → ⊥) → v ≡ (p, u.and, ALT_CODE) → p ≡ part_alt m.part u.part → R ≡ T → Joint
+  by_alt p d e q f g = (rw (q, ne_eqb b SEQ d, ne_eqb b AND e, f) refl, rw (ne_eqb b SEQ d, ne_eqb b AND e) g)
+
+  -- So the two are joined.
+  pub both_joined : (S : List ℕ) (c a r : ℕ) → Joint → S ≡ put_code R u.code v.2 → c ≡ code_next u.code → a ≡ earlier m.and v.1 → r ≡ earlier m.repeated u.repeated
+      → (record { at = u.at; places = u.places; tokens = u.tokens; part = v.0; code = c; and = a; repeated = r } ≡ join_model b i m u) × (S ≡ join_table b lo m u T)
+  both_joined S c a r (e, g) h k l x = (rw (k, l, x, e) refl, rw (h, g, e) refl)

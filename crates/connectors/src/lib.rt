@@ -38,12 +38,9 @@ fn with_opt(table: &mut [u8; MODEL], end: usize, m: Model) -> Model
 {
     Model {
         at: end,
-        places: m.places,
-        tokens: m.tokens,
         part: model_table::optional(m.part),
         code: model_code::put(table, m.code, model_code::OPT_CODE),
-        and: m.and,
-        repeated: m.repeated,
+        ..m
     }
 }
 
@@ -53,16 +50,12 @@ fn with_plus(table: &mut [u8; MODEL], lo: usize, end: usize, m: Model) -> Model
     ensures value { result ≡ plus_model end m }
     ensures table_after { table.new ≡ plus_table lo m table.old }
 {
-    let part = m.part;
     model_table::repeat(table, lo, m.places + 1);
     Model {
         at: end,
-        places: m.places,
-        tokens: m.tokens,
-        part: part,
         code: model_code::put(table, m.code, model_code::PLUS_CODE),
-        and: m.and,
         repeated: m.and,
+        ..m
     }
 }
 
@@ -94,11 +87,7 @@ pub fn with_occurrence(s: &[u8], table: &mut [u8; MODEL], lo: usize, m: Model) -
 pub fn is_connector(b: u8, c: u8) -> bool
     ensures { result ≡ is_connector b && (eqb c 0 || eqb c b) }
 {
-    if b == b',' || b == b'|' || b == b'&' {
-        c == 0 || c == b
-    } else {
-        false
-    }
+    (b == b',' || b == b'|' || b == b'&') && (c == 0 || c == b)
 }
 
 // The first of two positions of which the first is the earlier; 0 is none.
@@ -115,43 +104,22 @@ pub fn joined_by(table: &mut [u8; MODEL], b: u8, i: usize, lo: usize, m: Model, 
     ensures value { result ≡ join_model b i m u }
     ensures table_after { table.new ≡ join_table b lo m u table.old }
 {
-    let at = u.at;
-    let places = u.places;
-    let tokens = u.tokens;
-    let code = u.code;
-    let and = earlier(m.and, u.and);
-    let repeated = earlier(m.repeated, u.repeated);
-    if b == b',' {
-        let part = model_table::join_seq(table, lo, m.places + 1, places + 1, m.part, u.part);
-        return Model {
-            at: at,
-            places: places,
-            tokens: tokens,
-            part: part,
-            code: model_code::put(table, code, model_code::SEQ_CODE),
-            and: and,
-            repeated: repeated,
-        };
-    }
-    if b == b'&' {
-        let part = model_table::join_and(table, lo, m.places + 1, places + 1, m.part, u.part);
-        return Model {
-            at: at,
-            places: places,
-            tokens: tokens,
-            part: part,
-            code: model_code::put(table, code, model_code::ALSO_CODE),
-            and: earlier(m.and, i as u16),
-            repeated: repeated,
-        };
-    }
+    let mid = m.places + 1;
+    let hi = u.places + 1;
+    let (part, and, op) = if b == b',' {
+        let part = model_table::join_seq(table, lo, mid, hi, m.part, u.part);
+        (part, u.and, model_code::SEQ_CODE)
+    } else if b == b'&' {
+        let part = model_table::join_and(table, lo, mid, hi, m.part, u.part);
+        (part, i as u16, model_code::ALSO_CODE)
+    } else {
+        (model_table::join_alt(m.part, u.part), u.and, model_code::ALT_CODE)
+    };
     Model {
-        at: at,
-        places: places,
-        tokens: tokens,
-        part: model_table::join_alt(m.part, u.part),
-        code: model_code::put(table, code, model_code::ALT_CODE),
-        and: and,
-        repeated: repeated,
+        part: part,
+        code: model_code::put(table, u.code, op),
+        and: earlier(m.and, and),
+        repeated: earlier(m.repeated, u.repeated),
+        ..u
     }
 }

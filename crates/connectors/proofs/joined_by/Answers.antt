@@ -1,22 +1,18 @@
 -- `joined_by` meets its contract, by the three connectors.
-use Rattle.std.proofs.Common.{refl}
-use Rattle.connectors.specs.Grown.{by_seq, by_and, by_alt}
+use Rattle.std.proofs.Common.{◌∙◌}
+use Rattle.connectors.specs.Grown.{by_seq, by_and, by_alt, both_joined}
 use Rattle.connectors.proofs.joined_by.Goals as goal
-
-pub returns-then-b-eq44 : goal.returns-then-b-eq44
-returns-then-b-eq44 c =
-    let x = c.args in
-    let e = by_seq x.b x.i x.lo x.m x.u _ _ _ _ _ _ _ c.put.ensures.1 c.earlier-repeated.ensures c.if-b-eq44.true c.join_seq-part.ensures.1 c.join_seq-part.ensures.0 c.put.ensures.0 c.earlier-and.ensures in
-    record { value = e.0; table_after = e.1 }
-
-pub returns-then-b-eq38 : goal.returns-then-b-eq38
-returns-then-b-eq38 c =
-    let x = c.args in
-    let e = by_and x.b x.i x.lo x.m x.u _ _ _ _ _ _ _ c.put-then-b-eq38.ensures.1 c.earlier-repeated.ensures c.if-b-eq38.true c.join_and-part.ensures.1 c.join_and-part.ensures.0 c.put-then-b-eq38.ensures.0 c.earlier.ensures in
-    record { value = e.0; table_after = e.1 }
+use Rattle.connectors.proofs.joined_by.Goals.{then-b-eq44, else-b-eq44+then-b-eq38, else-b-eq44+else-b-eq38}
 
 pub returns : goal.returns
 returns c =
     let x = c.args in
-    let e = by_alt x.b x.i x.lo x.m x.u _ _ _ _ _ _ _ c.put-2.ensures.1 c.earlier-repeated.ensures c.if-b-eq44.false c.if-b-eq38.false c.join_alt.ensures refl c.put-2.ensures.0 c.earlier-and.ensures in
+    let e =
+    both_joined x.b x.i x.lo x.m x.u x.table.now c.if-b-eq44.table c.if-b-eq44.and _ _ _ _
+    (elim c.if-b-eq44.branch [
+      | then-b-eq44 w ↦ by_seq x.b x.i x.lo x.m x.u x.table.now _ _ _ w.if-b-eq44.true w.and-is w.join_seq-part.ensures.1 (w.table-is ∙ w.join_seq-part.ensures.0)
+      | else-b-eq44+then-b-eq38 w ↦ by_and x.b x.i x.lo x.m x.u x.table.now _ _ _ w.if-b-eq38.true w.and-is w.join_and-part.ensures.1 (w.table-is ∙ w.join_and-part.ensures.0)
+      | else-b-eq44+else-b-eq38 w ↦ by_alt x.b x.i x.lo x.m x.u x.table.now _ _ _ w.if-b-eq44.false w.if-b-eq38.false w.and-is w.join_alt.ensures w.table-is
+    ])
+    c.put.ensures.0 c.put.ensures.1 c.earlier.ensures c.earlier-2.ensures in
     record { value = e.0; table_after = e.1 }
