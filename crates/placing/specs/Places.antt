@@ -135,7 +135,7 @@ shows {z = z} stands p same = place_taken_took z.current p ∙ ap (λ k. shown k
 
 -- What the code does with the place p
 
-module _ {rows places facts : List ℕ} (M begun : List ℕ) {found : Way} {x at to n : ℕ} {o : OpenElements} {numbers bytes : List ℕ} {p : ℕ} (asked : Asked rows places facts found x o.element.0 p) where
+module _ {rows places facts : List ℕ} (M begun : List ℕ) {found : Way} {x at to : ℕ} {o : OpenElements} {numbers bytes : List ℕ} {p : ℕ} (asked : Asked rows places facts found x o.element.0 p) where
   pub placed_nowhere : p ≡ 0 → PlacedRefused rows places facts M begun found x at to o numbers bytes NotAllowedHere begun numbers bytes
   placed_nowhere z =
       record {
@@ -166,7 +166,7 @@ module _ {rows places facts : List ℕ} (M begun : List ℕ) {found : Way} {x at
               noting_full es at after (take_place p z) x element (omega (arith, stands_deep stands));
         }
 
-    pub placed_taken : Ranged o → full ≡ false → p ≤ GRPGTCNT → {q : OpenElements} {begun' : List ℕ} → Taking rows M begun p o q begun' → {v : ℕ} → v ≡ shown o.element.0 p
+    pub placed_taken : {n : ℕ} → Ranged o → full ≡ false → p ≤ GRPGTCNT → {q : OpenElements} {begun' : List ℕ} → Taking rows M begun p o q begun' → {v : ℕ} → v ≡ shown o.element.0 p
         → {m : ℕ} {numbers' bytes' : List ℕ} → Writes facts x v at to n numbers bytes m numbers' bytes'
         → PlacedGot rows places facts M begun found x at to n o numbers bytes (record { «open» = q; events = m }) begun' numbers' bytes'
     placed_taken h roomy within took {v} same w =
