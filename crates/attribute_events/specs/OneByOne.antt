@@ -12,7 +12,6 @@ use Rattle.rules.specs.Events.{Event}
 use Rattle.rules.specs.Given.{given_for, attribute_event, attribute_events}
 use Rattle.layout.specs.Sizes.{ATTRIBUTE, LIST, MARKS}
 use Rattle.attribute_defaults.specs.DefaultOf.{default_is}
-use Rattle.event_buffer.specs.Buffers.{noted, Puts}
 use Rattle.event_buffer.specs.EventByEvent.{puts_none, puts_then}
 use Rattle.list_table.specs.declared.Row.{Row}
 use Rattle.list_table.specs.Lists.{row_in, ListAt}
@@ -22,10 +21,6 @@ use Rattle.attribute_events.specs.PutBefore.{PutsFew, PutsWritten, PutsDefaults,
 -- The event of one attribute, with these marks
 
 module _ (n at size : ℕ) where
-  event_written : (f : Default) (ws : List Written) → (at ≡ 0 → ⊥) → MarkedWith at size ws → noted 7 n at size 0 ∷ [] ≡ attribute_event n f ws
-  event_written f [] h m = absurd (h m)
-  event_written f (w ∷ ws) h m = rw (m.0, m.1)
-
   event_unwritten : (f : Default) (ws : List Written) → at ≡ 0 → MarkedWith at size ws → attribute_event n f ws ≡ attribute_event n f []
   event_unwritten f [] z m = refl
   event_unwritten f (w ∷ ws) z m = absurd (omega (arith, m.0, z))
@@ -37,17 +32,8 @@ event_none n x l h = by_zero (ℕ_discrete x 0)
     by_zero (yes z) = rw (default_is, eq-eqb x 0 z)
     by_zero (no z) = let one : x ≡ 1 = omega arith in rw (default_is, ne_eqb x 0 z, eq-eqb x 1 one)
 
-event_default : (n x l : ℕ) → 2 ≤ x → attribute_event n (default_is x l) [] ≡ noted 8 n x l 0 ∷ []
-event_default n x l h = let a : x ≡ 0 → ⊥ = λ z. omega arith in let b : x ≡ 1 → ⊥ = λ z. omega arith in rw (default_is, ne_eqb x 0 a, ne_eqb x 1 b)
-
 -- One event, or none: the attribute k of the element e has the row r.
 module _ (lists : List ℕ) (e k at size n : ℕ) (numbers bytes : List ℕ) (some : 1 ≤ e) where
-  single : {r : ℕ} {numbers' bytes' : List ℕ} {x : Event} → (r ≡ n + 1) × Puts numbers bytes n (x ∷ []) numbers' bytes' → PutsFew 1 e n numbers bytes r numbers' bytes' (x ∷ [])
-  single (q, p) = record { puts = p; counted = q; few = omega arith; nothing = λ z. absurd (omega arith) }
-
-  pub one_written : {r : ℕ} {numbers' bytes' : List ℕ} → (at ≡ 0 → ⊥) → (r ≡ n + 1) × Puts numbers bytes n (noted 7 (k + 1) at size 0 ∷ []) numbers' bytes' → PutsOne lists e k at size n numbers bytes r numbers' bytes'
-  one_written h p = record { events = noted 7 (k + 1) at size 0 ∷ []; few = single p; are = λ long s xs ws l i m. event_written (k + 1) at size _ ws h m }
-
   module _ (z : at ≡ 0) (row : Row) (o : row ≡ row_in lists (LIST * (e - 1) + 1 + ATTRIBUTE * k)) where
     -- What the rules have for it is what its default brings.
     defaulted : (long : ℕ) (s : List ℕ) (xs : List Attribute) (ws : List Written) → ListAt long s lists (LIST * (e - 1)) xs → k < length xs → MarkedWith at size ws
@@ -62,15 +48,6 @@ module _ (lists : List ℕ) (e k at size n : ℕ) (numbers bytes : List ℕ) (so
           events = [];
           few = record { puts = puts_none numbers bytes n; counted = omega arith; few = omega arith; nothing = λ y. refl };
           are = λ long s xs ws l i m. sym (event_none (k + 1) row.default row.width h) ∙ defaulted long s xs ws l i m;
-        }
-
-    pub one_defaulted : {r : ℕ} {numbers' bytes' : List ℕ} → 2 ≤ row.default → (r ≡ n + 1) × Puts numbers bytes n (noted 8 (k + 1) row.default row.width 0 ∷ []) numbers' bytes'
-        → PutsOne lists e k at size n numbers bytes r numbers' bytes'
-    one_defaulted h p =
-        record {
-          events = noted 8 (k + 1) row.default row.width 0 ∷ [];
-          few = single p;
-          are = λ long s xs ws l i m. sym (event_default (k + 1) row.default row.width h) ∙ defaulted long s xs ws l i m;
         }
 
 -- One attribute after the other
