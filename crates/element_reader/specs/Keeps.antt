@@ -6,9 +6,9 @@ use Rattle.rules.specs.TypeFile as rules
 use Rattle.rules.specs.Bytes.{element_limit}
 use Rattle.text.specs.declared.Fault.{Fault}
 use Rattle.element_reader.specs.declared.Element.{Element}
-use Rattle.element_head.specs.Heads.{bit}
 use Rattle.element_content.specs.Kept.{repeated_of, place}
 -- What the crates above cite of a declaration's parts.
+pub use Rattle.element_head.specs.Heads.{bit}
 pub use Rattle.element_names.specs.Names.{Recorded}
 pub use Rattle.element_content.specs.Kept.{KeepsModel, KeepsContent}
 

@@ -1,6 +1,7 @@
 -- Laws of the first pair at fault: what the search for one says of a model, and what is pending after it.
-use Rattle.std.specs.Prelude.{ℕ, refl, Option, Some, None, ◌-◌, ◌≤◌, ◌<◌, ◌≡◌, Bool, false, ◌⊎◌, List, [], ◌∷◌, ◌++◌}
+use Rattle.std.specs.Prelude.{ℕ, Option, Some, None, true, ◌-◌, ◌≤◌, ◌<◌, ◌≡◌, Bool, false, ◌⊎◌, List, [], ◌∷◌, ◌++◌}
 use Rattle.std.proofs.Common.{sym, ap, subst, inl, inr, ⊎_elim, arith}
+use Rattle.std.specs.Option.{is_some}
 use Rattle.rules.specs.Walk.{Group}
 use Rattle.rules.specs.TypeFile.{Place, Content, empty, model, Element}
 use Rattle.rules.specs.Judge.{Unambiguous, AllUnambiguous, PairStandsAt, FirstAmbiguous, here, later}
@@ -32,29 +33,18 @@ module _ (s : List ℕ) (x : Element) where
 
 module _ (s : List ℕ) (es : List Element) (x : Content) where
   -- A pair found before stays, whatever the next model is.
-  pub pending_kept : (c : Option Clash) → (c ≡ None → ⊥) → Pending s c es → PendingWith s c es x
-  pending_kept None z h e q = absurd (z refl)
+  pub pending_kept : (c : Option Clash) → true ≡ is_some c → Pending s c es → PendingWith s c es x
+  pending_kept None z h e q = cc
   pending_kept (Some c) z h e q = first_more s e h
 
   -- Where none was, there is none if the next model is unambiguous.
-  pub pending_clear : Pending s None es → Unambiguous s x → PendingWith s None es x
-  pending_clear h u e q = all_more s e es h (rw q u)
+  pub pending_clear : (c r : Option Clash) → false ≡ is_some c → r ≡ None → Pending s c es → Unambiguous s x → PendingWith s r es x
+  pending_clear None r z n h u e q = rw n (all_more s e es h (rw q u))
+  pending_clear (Some c) r z n h u e q = cc
 
-  pub pending_first : Pending s None es → (d : Clash) → PairStandsAt s x d.at d.first d.second → PendingWith s (Some d) es x
-  pending_first h d f e q = first_last s e d.at d.first d.second es h (rw q f)
-
--- What the search for a pair answers: no place, or two of the model.
-module _ (f : ℕ → ℕ → Bool) (places p q : ℕ) (answered : (p, q) ≡ search_pair f places) where
-  answer_both : ((p ≡ 0) × (q ≡ 0)) ⊎ ((1 ≤ p) × (p < q) × (q ≤ places))
-  answer_both =
-      subst (λ (r : ℕ × ℕ). ((r.0 ≡ 0) × (r.1 ≡ 0)) ⊎ ((1 ≤ r.0) × (r.0 < r.1) × (r.1 ≤ places))) (sym answered)
-      (⊎_elim (λ x. inl (ap (λ (r : ℕ × ℕ). r.0) x.0, ap (λ (r : ℕ × ℕ). r.1) x.0)) (λ y. inr (y.0, y.1, y.2)) (search_pair_cases f places))
-
-  answer_zero : q ≡ 0 → p ≡ 0
-  answer_zero z = ⊎_elim (λ x. x.0) (λ y. omega arith) answer_both
-
-  answer_in : (q ≡ 0 → ⊥) → (1 ≤ p) × (p < q) × (q ≤ places)
-  answer_in n = ⊎_elim (λ x. absurd (n x.1)) (λ y. y) answer_both
+  pub pending_first : (c : Option Clash) (d : Clash) → false ≡ is_some c → Pending s c es → PairStandsAt s x d.at d.first d.second → PendingWith s (Some d) es x
+  pending_first None d z h f e q = first_last s e d.at d.first d.second es h (rw q f)
+  pending_first (Some c) d z h f e q = cc
 
 -- EMPTY is unambiguous.
 pub content_empty : (s names table : List ℕ) (x : Content) → KeepsContent names table None x → Unambiguous s x
@@ -80,19 +70,17 @@ module _ (s names table : List ℕ) (m : Model) (none : m.repeated ≡ None) (p 
   found : (g : Group) (ps : List Place) → KeepsModel names table m g ps → (p, q) ≡ search_pair (fault_in s names (clash g) m.places) m.places
   found g ps k = answered (clash g) (tells table g m.places m.code m.and (holds g ps k))
 
-  pub content_none : (x : Content) → q ≡ 0 → KeepsContent names table (Some m) x → Unambiguous s x
+  pub content_none : (x : Content) → p ≡ 0 → KeepsContent names table (Some m) x → Unambiguous s x
   content_none empty z k = absurd k
   content_none (model g ps t) z k =
       let w = k.2 in
-      rw (← w.names_hold)
-      (answer_none table g m.places m.code m.and (holds g ps w) s names p q answered (answer_zero (fault_in s names (clash g) m.places) m.places p q (found g ps w) z))
+      rw (← w.names_hold) (answer_none table g m.places m.code m.and (holds g ps w) s names p q answered z)
 
-  pub content_pair : (x : Content) (at : ℕ) → (q ≡ 0 → ⊥) → at ≡ (place_in names (q - 1)).at → KeepsContent names table (Some m) x → PairStandsAt s x at p q
-  content_pair empty at z e k = absurd k
-  content_pair (model g ps t) at z e k =
+  pub content_pair : (x : Content) (at : ℕ) → (1 ≤ p) × (p < q) × (q ≤ m.places) → at ≡ (place_in names (q - 1)).at → KeepsContent names table (Some m) x → PairStandsAt s x at p q
+  content_pair empty at h e k = absurd k
+  content_pair (model g ps t) at h e k =
       let w = k.2 in
-      let (some, less, most) = answer_in (fault_in s names (clash g) m.places) m.places p q (found g ps w) z in
       rw (← w.names_hold) (
-        answer_first table g m.places m.code m.and (holds g ps w) s names p q answered some,
+        answer_first table g m.places m.code m.and (holds g ps w) s names p q answered h.0,
         rw (place_at_places_of names m.places (q - 1) (omega arith)) e,
       )

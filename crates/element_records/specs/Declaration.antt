@@ -1,6 +1,7 @@
 -- What the element reader's answer makes of what is kept.
-use Rattle.std.specs.Prelude.{ℕ, Option, Some, None, Result, Ok, Err, ◌+◌, ◌*◌, ◌≤◌, ◌<◌, ◌≡◌, refl, List, [], ◌∷◌, ◌++◌, length, take}
-use Rattle.std.proofs.Common.{sym, ap, ◌∙◌, arith}
+use Rattle.std.specs.Prelude.{ℕ, zero, suc, Option, Some, None, Result, Ok, Err, ◌+◌, ◌*◌, ◌≤◌, ◌<◌, ◌≡◌, refl, List, [], ◌∷◌, ◌++◌, length, take}
+use Rattle.std.proofs.Common.{sym, ap, ◌∙◌, arith, ne_eqb}
+use Rattle.std.specs.Option.{option_or}
 use Rattle.rules.specs.Reading.{Reading, refused, got}
 use Rattle.rules.specs.TypeFile.{Content, empty, model, Element, Declared, earlier}
 use Rattle.rules.specs.Judge.{first_repeated, record_width}
@@ -15,6 +16,11 @@ use Rattle.element_records.specs.declared.Clash.{Clash}
 use Rattle.element_records.specs.declared.Progress.{Progress}
 use Rattle.element_records.specs.Progress.{numbers_of, tokens_of, PendingWith, KeepsProgress, MeetsStep}
 use Rattle.element_records.specs.Records.{length_more, repeated_more, numbers_kept, recorded_more}
+
+-- The first of two positions that is given.
+pub place_or : (i j : ℕ) → option_or (place i) (place j) ≡ place (earlier i j)
+place_or zero j = refl
+place_or (suc i) j = rw (ne_eqb (suc i) 0 (λ e. omega arith), earlier)
 
 -- What the element reader's answer makes of a step.
 module _ (s : List ℕ) (from : ℕ) (names table : List ℕ) (es : List Element) where

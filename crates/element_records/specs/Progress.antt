@@ -6,7 +6,7 @@ use Rattle.rules.specs.Judge.{AllUnambiguous, FirstAmbiguous, first_repeated}
 use Rattle.rules.specs.Bytes.{element_limit}
 use Rattle.text.specs.declared.Fault.{Fault}
 use Rattle.element_names.specs.Names.{Recorded}
-use Rattle.element_head.specs.Heads.{bit}
+use Rattle.element_reader.specs.Keeps.{bit}
 use Rattle.element_content.specs.Kept.{place}
 use Rattle.element_content.specs.declared.Model.{Model}
 use Rattle.element_reader.specs.declared as declared

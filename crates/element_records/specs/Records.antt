@@ -5,7 +5,7 @@ use Rattle.rules.specs.TypeFile.{Content, empty, model, Element, earlier}
 use Rattle.rules.specs.Judge.{records, content_numbers, first_repeated, record_width}
 use Rattle.basic_laws.specs.Truth.{bool_cases}
 use Rattle.element_names.specs.Names.{Recorded}
-use Rattle.element_head.specs.Heads.{bit}
+use Rattle.element_reader.specs.Keeps.{bit}
 use Rattle.element_content.specs.declared.Model.{Model}
 use Rattle.element_content.specs.Kept.{KeepsContent}
 use Rattle.element_reader.specs.declared as declared
@@ -47,6 +47,11 @@ pub recorded_more : (before after : List ℕ) (k : ℕ) (e : declared.Element.El
     → take (record_width * (k + 1)) after ≡ take (record_width * k) before ++ numbers_of e → numbers_of e ≡ record_of x → Recorded after (es ++ x ∷ [])
 recorded_more before after k e es x c r w q =
     rw (length_more es x, records_more es x, ← r, ← q, ← c) w
+
+-- The six numbers as the code has them.
+pub six_numbers : (e : declared.Element.Element) {a b c d : ℕ} → a ≡ bit e.start → b ≡ bit e.end → c ≡ kind_of e.model → d ≡ tokens_of e.model
+    → ◌≡◌ {A = List ℕ} (e.offset ∷ e.size ∷ a ∷ b ∷ c ∷ d ∷ []) (numbers_of e)
+six_numbers e p q r t = rw (p, q, r, t)
 
 -- The writes that put a record behind those before.
 put_one : (l : List ℕ) (i j a : ℕ) → j ≡ i + 1 → i < length l → take j (set l i a) ≡ take i l ++ a ∷ []

@@ -1,7 +1,8 @@
 // The elements of a type file as they are read: each is recorded in the table of elements, and the first pair at fault is kept.
 #![tactic(auto)]
 
-ghost use Rattle.std.specs.Prelude.{◌≡◌, ForSome, List, ◌++◌, ◌+◌, ◌*◌, ◌≤◌, ◌<◌, length, take};
+ghost use Rattle.std.specs.Prelude.{◌≡◌, List, ◌++◌, ◌+◌, ◌*◌, ◌≤◌, ◌<◌, length, take};
+ghost use Rattle.std.specs.Option.{ForSome};
 ghost use Rattle.rules.specs.TypeFile as rules;
 ghost use Rattle.rules.specs.Bytes.{GRPGTCNT, element_limit, type_limit};
 ghost use Rattle.rules.specs.Judge.{record_width};
@@ -41,16 +42,15 @@ fn put_record(elements: &mut [u32; RECORDS], k: usize, e: Element)
     requires { (k < element_limit) × (e.offset < 4294967296) × (e.size < 4294967296) × (tokens_of e.model < 4294967296) }
     ensures { take (record_width * (k + 1)) elements.new ≡ take (record_width * k) elements.old ++ numbers_of e }
 {
-    whole(*elements);
-    let tokens = match e.model {
-        Some(m) => m.tokens,
-        None => 0,
+    let (kind, tokens) = match e.model {
+        Some(m) => (1, m.tokens),
+        None => (0, 0),
     };
     elements[RECORD * k] = e.offset as u32;
     elements[RECORD * k + 1] = e.size as u32;
     elements[RECORD * k + 2] = e.start as u32;
     elements[RECORD * k + 3] = e.end as u32;
-    elements[RECORD * k + 4] = e.model.is_some() as u32;
+    elements[RECORD * k + 4] = kind;
     elements[RECORD * k + 5] = tokens as u32;
 }
 
@@ -70,23 +70,15 @@ fn clash_with(
     if c.is_some() {
         return c;
     }
-    let Some(m) = model else {
-        return None;
-    };
+    let m = model?;
     if m.repeated.is_some() {
         return None;
     }
-    let pair = model_pairs::first_pair(s, names, table, m.places, m.code, m.and);
-    let q = pair.second;
-    if q == 0 {
-        return None;
-    }
-    let at = model_names::place_at(names, q);
-    let p = pair.first;
+    let pair = model_pairs::first_pair(s, names, table, m.places, m.code, m.and)?;
     Some(Clash {
-        at: at as u32,
-        first: p as u32,
-        second: q as u32,
+        at: model_names::place_at(names, pair.second) as u32,
+        first: pair.first as u32,
+        second: pair.second as u32,
     })
 }
 

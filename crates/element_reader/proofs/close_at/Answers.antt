@@ -21,7 +21,8 @@ returns-then-byte-eq40 c =
       | then-b-eq45-via-then-b-eq45 w ↦ rw (eq-eqb _ _ (sym b ∙ w.if-b-eq45.true))
       | then-b-eq45-via-else-b-eq45+then-b-eq43 w ↦ rw (ne_eqb _ _ (λ e. w.if-b-eq45.false (b ∙ e)), ← b) (eq-eqb _ _ w.if-b-eq43.true)
     ] in
-    sym
+    ap refusal_of c.at.ensures
+    ∙ sym
     (close_exception a.s.now _ (λ e. c.if-b-eq62.false (b ∙ e))
     (rw sign (eq-eqb _ _ (sym c.byte.ensures ∙ c.if-byte-eq40.true))))
 
