@@ -11,6 +11,8 @@ ghost use Rattle.model_code.specs.Six.{put_code, code_next, six, then_six, eithe
 
 use layout::{CODE, MODEL, MODEL_ROWS, POSITIONS};
 
+// Kept: these numbers of kinds are no enum (fixed): a byte of the code holds a place, or one of them, or how many members an "&" group has.
+
 // The two groups before are joined by ",". Every number below this one is a place.
 pub const SEQ_CODE: u8 = POSITIONS as u8;
 
@@ -33,7 +35,7 @@ pub const AND_CODE: u8 = 128;
 pub fn put(table: &mut [u8; MODEL], n: u16, op: u8) -> u16
     ensures { (table.new ≡ put_code table.old n op) × (result ≡ code_next n) }
 {
-    let i = numbers::short(n);
+    let i = usize::from(n);
     if CODE <= i {
         return n;
     }
@@ -43,7 +45,7 @@ pub fn put(table: &mut [u8; MODEL], n: u16, op: u8) -> u16
 
 // What a pass keeps of a group for the places p and q: whether it can be nothing; whether p, whether q can begin a walk of it; whether p,
 // whether q can go on after some walk of it; whether both can come next after one beginning.
-#[derive(Clone, Copy)]
+#[derive(Clone, Copy, Default)]
 pub struct Pairing {
     pub null: bool,
     pub begins_p: bool,
@@ -53,28 +55,11 @@ pub struct Pairing {
     pub clash: bool,
 }
 
-// Whether one of two tests holds. It asks no more than it is handed.
-fn one_of(a: bool, b: bool) -> bool
-    ensures { result ≡ (a || b) }
-{
-    if a { true } else { b }
-}
-
-// Whether both tests hold.
-fn both(a: bool, b: bool) -> bool
-    ensures { result ≡ (a && b) }
-{
-    if a { b } else { false }
-}
-
 // Whether p of the members before and q of the one that is joined can both come next.
 fn crossing(begins_p: bool, extends_p: bool, begins_q: bool, extends_q: bool) -> bool
     ensures { result ≡ cross begins_p extends_p begins_q extends_q }
 {
-    one_of(
-        both(one_of(begins_p, extends_p), begins_q),
-        both(extends_q, begins_p),
-    )
+    ((begins_p | extends_p) & begins_q) | (extends_q & begins_p)
 }
 
 // The place n alone, asked for the places p and q.
@@ -84,12 +69,10 @@ fn at_place(n: usize, p: usize, q: usize) -> Pairing
     let is_p = n == p;
     let is_q = n == q;
     Pairing {
-        null: false,
         begins_p: is_p,
         begins_q: is_q,
-        extends_p: false,
-        extends_q: false,
-        clash: both(is_p, is_q),
+        clash: is_p & is_q,
+        ..Pairing::default()
     }
 }
 
@@ -98,15 +81,12 @@ fn in_sequence(a: Pairing, b: Pairing) -> Pairing
     ensures { six result ≡ then_six (six a) (six b) }
 {
     Pairing {
-        null: both(a.null, b.null),
-        begins_p: one_of(a.begins_p, both(a.null, b.begins_p)),
-        begins_q: one_of(a.begins_q, both(a.null, b.begins_q)),
-        extends_p: one_of(both(b.null, a.extends_p), b.extends_p),
-        extends_q: one_of(both(b.null, a.extends_q), b.extends_q),
-        clash: one_of(
-            one_of(a.clash, b.clash),
-            one_of(both(a.extends_p, b.begins_q), both(a.extends_q, b.begins_p)),
-        ),
+        null: a.null & b.null,
+        begins_p: a.begins_p | (a.null & b.begins_p),
+        begins_q: a.begins_q | (a.null & b.begins_q),
+        extends_p: (b.null & a.extends_p) | b.extends_p,
+        extends_q: (b.null & a.extends_q) | b.extends_q,
+        clash: a.clash | b.clash | ((a.extends_p & b.begins_q) | (a.extends_q & b.begins_p)),
     }
 }
 
@@ -115,21 +95,12 @@ fn in_choice(a: Pairing, b: Pairing) -> Pairing
     ensures { six result ≡ either_six (six a) (six b) }
 {
     Pairing {
-        null: one_of(a.null, b.null),
-        begins_p: one_of(a.begins_p, b.begins_p),
-        begins_q: one_of(a.begins_q, b.begins_q),
-        extends_p: one_of(
-            one_of(a.extends_p, b.extends_p),
-            one_of(both(b.null, a.begins_p), both(a.null, b.begins_p)),
-        ),
-        extends_q: one_of(
-            one_of(a.extends_q, b.extends_q),
-            one_of(both(b.null, a.begins_q), both(a.null, b.begins_q)),
-        ),
-        clash: one_of(
-            one_of(a.clash, b.clash),
-            one_of(both(a.begins_p, b.begins_q), both(a.begins_q, b.begins_p)),
-        ),
+        null: a.null | b.null,
+        begins_p: a.begins_p | b.begins_p,
+        begins_q: a.begins_q | b.begins_q,
+        extends_p: a.extends_p | b.extends_p | ((b.null & a.begins_p) | (a.null & b.begins_p)),
+        extends_q: a.extends_q | b.extends_q | ((b.null & a.begins_q) | (a.null & b.begins_q)),
+        clash: a.clash | b.clash | ((a.begins_p & b.begins_q) | (a.begins_q & b.begins_p)),
     }
 }
 
@@ -138,18 +109,12 @@ fn in_any_order(a: Pairing, b: Pairing) -> Pairing
     ensures { six result ≡ added_six (six a) (six b) }
 {
     Pairing {
-        null: both(a.null, b.null),
-        begins_p: one_of(a.begins_p, b.begins_p),
-        begins_q: one_of(a.begins_q, b.begins_q),
-        extends_p: one_of(a.extends_p, b.extends_p),
-        extends_q: one_of(a.extends_q, b.extends_q),
-        clash: one_of(
-            one_of(a.clash, b.clash),
-            one_of(
-                crossing(a.begins_p, a.extends_p, b.begins_q, b.extends_q),
-                crossing(a.begins_q, a.extends_q, b.begins_p, b.extends_p),
-            ),
-        ),
+        null: a.null & b.null,
+        begins_p: a.begins_p | b.begins_p,
+        begins_q: a.begins_q | b.begins_q,
+        extends_p: a.extends_p | b.extends_p,
+        extends_q: a.extends_q | b.extends_q,
+        clash: a.clash | b.clash | (crossing(a.begins_p, a.extends_p, b.begins_q, b.extends_q) | crossing(a.begins_q, a.extends_q, b.begins_p, b.extends_p)),
     }
 }
 
@@ -159,11 +124,9 @@ fn made_optional(a: Pairing) -> Pairing
 {
     Pairing {
         null: true,
-        begins_p: a.begins_p,
-        begins_q: a.begins_q,
-        extends_p: one_of(a.extends_p, a.begins_p),
-        extends_q: one_of(a.extends_q, a.begins_q),
-        clash: a.clash,
+        extends_p: a.extends_p | a.begins_p,
+        extends_q: a.extends_q | a.begins_q,
+        ..a
     }
 }
 
@@ -172,15 +135,10 @@ fn made_repeated(a: Pairing) -> Pairing
     ensures { six result ≡ many_six (six a) }
 {
     Pairing {
-        null: a.null,
-        begins_p: a.begins_p,
-        begins_q: a.begins_q,
-        extends_p: one_of(a.extends_p, a.begins_p),
-        extends_q: one_of(a.extends_q, a.begins_q),
-        clash: one_of(
-            a.clash,
-            one_of(both(a.extends_p, a.begins_q), both(a.extends_q, a.begins_p)),
-        ),
+        extends_p: a.extends_p | a.begins_p,
+        extends_q: a.extends_q | a.begins_q,
+        clash: a.clash | ((a.extends_p & a.begins_q) | (a.extends_q & a.begins_p)),
+        ..a
     }
 }
 
@@ -188,30 +146,20 @@ fn made_repeated(a: Pairing) -> Pairing
 fn joined(op: u8, a: Pairing, b: Pairing) -> Pairing
     ensures { six result ≡ joined_six op (six a) (six b) }
 {
-    if op == SEQ_CODE {
-        return in_sequence(a, b);
+    match op {
+        SEQ_CODE => in_sequence(a, b),
+        ALT_CODE => in_choice(a, b),
+        _ => in_any_order(a, b),
     }
-    if op == ALT_CODE {
-        return in_choice(a, b);
-    }
-    in_any_order(a, b)
 }
 
 // Whether the places p and q can both come next after one beginning, in the model whose code has n numbers.
 pub fn clash(table: &[u8; MODEL], n: usize, p: usize, q: usize) -> bool
     ensures { Told table.now p q n result }
 {
-    let mut stack = [Pairing {
-        null: false,
-        begins_p: false,
-        begins_q: false,
-        extends_p: false,
-        extends_q: false,
-        clash: false,
-    }; POSITIONS];
+    let mut stack = [Pairing::default(); POSITIONS];
     let mut top = 0;
-    let mut i = 0;
-    while i < n && i < CODE {
+    for i in 0..n.min(CODE) {
         let op = table[MODEL_ROWS + i];
         if op < SEQ_CODE {
             if top < POSITIONS {
@@ -232,7 +180,6 @@ pub fn clash(table: &[u8; MODEL], n: usize, p: usize, q: usize) -> bool
                 top -= 1;
             }
         }
-        i += 1;
     }
     stack[0].clash
 }

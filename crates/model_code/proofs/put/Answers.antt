@@ -17,8 +17,8 @@ written T n op i e h = let x = lt-ltb n CODE (omega arith) in (rw x (ap (λ (k :
 
 pub returns-then-i-ge-CODE : goal.returns-then-i-ge-CODE
 returns-then-i-ge-CODE c = let x = c.args in
-    skipped _ x.n x.op _ c.short-i.ensures.0 c.if-i-ge-CODE.true
+    skipped _ x.n x.op _ c.from-i.ensures c.if-i-ge-CODE.true
 
 pub returns : goal.returns
 returns c = let x = c.args in
-    written x.table.now x.n x.op _ c.short-i.ensures.0 (omega (arith, c.if-i-ge-CODE.false))
+    written x.table.now x.n x.op _ c.from-i.ensures (omega (arith, c.if-i-ge-CODE.false))
