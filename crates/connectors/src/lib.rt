@@ -113,7 +113,11 @@ pub fn joined_by(table: &mut [u8; MODEL], b: u8, i: usize, lo: usize, m: Model, 
         let part = model_table::join_and(table, lo, mid, hi, m.part, u.part);
         (part, i as u16, model_code::ALSO_CODE)
     } else {
-        (model_table::join_alt(m.part, u.part), u.and, model_code::ALT_CODE)
+        (
+            model_table::join_alt(m.part, u.part),
+            u.and,
+            model_code::ALT_CODE,
+        )
     };
     Model {
         part: part,

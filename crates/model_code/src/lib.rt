@@ -114,7 +114,10 @@ fn in_any_order(a: Pairing, b: Pairing) -> Pairing
         begins_q: a.begins_q | b.begins_q,
         extends_p: a.extends_p | b.extends_p,
         extends_q: a.extends_q | b.extends_q,
-        clash: a.clash | b.clash | (crossing(a.begins_p, a.extends_p, b.begins_q, b.extends_q) | crossing(a.begins_q, a.extends_q, b.begins_p, b.extends_p)),
+        clash: a.clash
+            | b.clash
+            | (crossing(a.begins_p, a.extends_p, b.begins_q, b.extends_q)
+                | crossing(a.begins_q, a.extends_q, b.begins_p, b.extends_p)),
     }
 }
 

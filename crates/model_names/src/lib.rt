@@ -1,7 +1,7 @@
 // The names of a model's places: where each stands in the type file and how long it is.
 #![tactic(auto)]
 
-ghost use Rattle.std.specs.Prelude.{◌≡◌, [], ◌∷◌, ◌++◌, ℕ, ◌+◌, ◌*◌, ◌-◌, ◌≤◌, ◌<◌, length, get_or, set};
+ghost use Rattle.std.specs.Prelude.{◌≡◌, [], ◌∷◌, ◌++◌, ℕ, ◌+◌, ◌*◌, ◌-◌, ◌≤◌, ◌<◌, get_or, set};
 ghost use Rattle.rules.specs.Bytes.{byte_at, fold, GRPGTCNT};
 ghost use Rattle.rules.specs.Judge.{same_place};
 ghost use Rattle.layout.specs.Sizes.{NAMES};
@@ -9,18 +9,12 @@ ghost use Rattle.model_names.specs.Places.{place_in, places_of, key_of};
 
 use layout::NAMES;
 
-// The table has as many numbers as its type says. Nothing is read of the copy, so no code is left of a call.
-fn whole(names: [u32; NAMES])
-    ensures { length names ≡ NAMES }
-{}
-
 // The next place is written down: where its name stands and how long it is, 0 for `#PCDATA`.
 pub fn put_name(names: &mut [u32; NAMES], places: usize, at: usize, size: usize)
     requires { (places < GRPGTCNT) × (at < 4294967296) × (size < 4294967296) }
     ensures { (places_of names.new (places + 1) ≡ places_of names.old places ++ record { at = at; size = size } ∷ [])
         × (names.new ≡ set (set names.old (2 * places) at) (2 * places + 1) size) }
 {
-    whole(*names);
     names[2 * places] = at as u32;
     names[2 * places + 1] = size as u32;
 }
@@ -55,11 +49,7 @@ pub fn same_place(s: &[u8], names: &[u32; NAMES], p: usize, q: usize) -> bool
     ensures { (n : ℕ) → p ≤ n → q ≤ n → result ≡ same_place s.now (places_of names.now n) p q }
 {
     let n = place_size(names, p);
-    if n == place_size(names, q) {
-        words::same_text(s, place_at(names, p), s, place_at(names, q), n)
-    } else {
-        false
-    }
+    n == place_size(names, q) && words::same_text(s, place_at(names, p), s, place_at(names, q), n)
 }
 
 // A number that places of the same name share: most others are told apart by it.
@@ -82,12 +72,5 @@ pub fn key(s: &[u8], names: &[u32; NAMES], p: usize) -> u32
 fn folded_at(s: &[u8], at: usize) -> u32
     ensures { (result ≡ fold (byte_at s.now at)) × (result < 256) }
 {
-    wide(text::folded(text::byte(s, at)))
-}
-
-// A byte as a wider number.
-fn wide(b: u8) -> u32
-    ensures { (result ≡ b) × (result < 256) }
-{
-    b as u32
+    u32::from(text::folded(text::byte(s, at)))
 }

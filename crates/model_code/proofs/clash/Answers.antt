@@ -13,24 +13,24 @@ loop-i-preserved c =
     let inv = c.loop-i.invariant in
     let room : c.loop-i.i < CODE = omega arith in
     elim c.if-op-lt-SEQ_CODE.branch [
-        | then-op-lt-SEQ_CODE+then-top-lt-POSITIONS w ↦
-            rw (w.stack-is, w.top-is) (passed_place _ _ _ _ _ _ inv room _ refl w.if-op-lt-SEQ_CODE.true w.if-top-lt-POSITIONS.true _ w.at_place.ensures)
-        | then-op-lt-SEQ_CODE+else-top-lt-POSITIONS w ↦
-            rw (w.stack-is, w.top-is) (passed_full _ _ _ _ _ _ inv room _ refl w.if-op-lt-SEQ_CODE.true w.if-top-lt-POSITIONS.false)
-        | else-op-lt-SEQ_CODE+then-op-eq-OPT_CODE+then-top-ge1 w ↦
-            rw (w.stack-is, w.top-is) (passed_opt _ _ _ _ _ _ inv room _ refl w.if-op-eq-OPT_CODE.true w.if-top-ge1.true _ w.made_optional.ensures)
-        | else-op-lt-SEQ_CODE+then-op-eq-OPT_CODE+else-top-ge1 w ↦
-            rw (w.stack-is, w.top-is) (passed_opt_none _ _ _ _ _ _ inv room _ refl w.if-op-eq-OPT_CODE.true w.if-top-ge1.false)
-        | else-op-lt-SEQ_CODE+else-op-eq-OPT_CODE+then-op-eq-PLUS_CODE+then-top-ge1-2 w ↦
-            rw (w.stack-is, w.top-is) (passed_plus _ _ _ _ _ _ inv room _ refl w.if-op-eq-PLUS_CODE.true w.if-top-ge1-2.true _ w.made_repeated.ensures)
-        | else-op-lt-SEQ_CODE+else-op-eq-OPT_CODE+then-op-eq-PLUS_CODE+else-top-ge1-2 w ↦
-            rw (w.stack-is, w.top-is) (passed_plus_none _ _ _ _ _ _ inv room _ refl w.if-op-eq-PLUS_CODE.true w.if-top-ge1-2.false)
-        | else-op-lt-SEQ_CODE+else-op-eq-OPT_CODE+else-op-eq-PLUS_CODE+then-op-lt-AND_CODE+then-top-ge2 w ↦
-            rw (w.stack-is, w.top-is) (passed_join _ _ _ _ _ _ inv room _ refl w.if-op-lt-SEQ_CODE.false w.if-op-eq-OPT_CODE.false w.if-op-eq-PLUS_CODE.false w.if-op-lt-AND_CODE.true w.if-top-ge2.true _ w.joined.ensures)
-        | else-op-lt-SEQ_CODE+else-op-eq-OPT_CODE+else-op-eq-PLUS_CODE+then-op-lt-AND_CODE+else-top-ge2 w ↦
-            rw (w.stack-is, w.top-is) (passed_join_none _ _ _ _ _ _ inv room _ refl w.if-op-lt-SEQ_CODE.false w.if-op-eq-OPT_CODE.false w.if-op-eq-PLUS_CODE.false w.if-op-lt-AND_CODE.true w.if-top-ge2.false)
-        | else-op-lt-SEQ_CODE+else-op-eq-OPT_CODE+else-op-eq-PLUS_CODE+else-op-lt-AND_CODE w ↦
-            rw (w.stack-is, w.top-is) (passed_other _ _ _ _ _ _ inv room _ refl w.if-op-lt-AND_CODE.false)
+      | then-op-lt-SEQ_CODE+then-top-lt-POSITIONS w ↦
+          rw (w.stack-is, w.top-is) (passed_place _ _ _ _ _ _ inv room _ refl w.if-op-lt-SEQ_CODE.true w.if-top-lt-POSITIONS.true _ w.at_place.ensures)
+      | then-op-lt-SEQ_CODE+else-top-lt-POSITIONS w ↦
+          rw (w.stack-is, w.top-is) (passed_full _ _ _ _ _ _ inv room _ refl w.if-op-lt-SEQ_CODE.true w.if-top-lt-POSITIONS.false)
+      | else-op-lt-SEQ_CODE+then-op-eq-OPT_CODE+then-top-ge1 w ↦
+          rw (w.stack-is, w.top-is) (passed_opt _ _ _ _ _ _ inv room _ refl w.if-op-eq-OPT_CODE.true w.if-top-ge1.true _ w.made_optional.ensures)
+      | else-op-lt-SEQ_CODE+then-op-eq-OPT_CODE+else-top-ge1 w ↦
+          rw (w.stack-is, w.top-is) (passed_opt_none _ _ _ _ _ _ inv room _ refl w.if-op-eq-OPT_CODE.true w.if-top-ge1.false)
+      | else-op-lt-SEQ_CODE+else-op-eq-OPT_CODE+then-op-eq-PLUS_CODE+then-top-ge1-2 w ↦
+          rw (w.stack-is, w.top-is) (passed_plus _ _ _ _ _ _ inv room _ refl w.if-op-eq-PLUS_CODE.true w.if-top-ge1-2.true _ w.made_repeated.ensures)
+      | else-op-lt-SEQ_CODE+else-op-eq-OPT_CODE+then-op-eq-PLUS_CODE+else-top-ge1-2 w ↦
+          rw (w.stack-is, w.top-is) (passed_plus_none _ _ _ _ _ _ inv room _ refl w.if-op-eq-PLUS_CODE.true w.if-top-ge1-2.false)
+      | else-op-lt-SEQ_CODE+else-op-eq-OPT_CODE+else-op-eq-PLUS_CODE+then-op-lt-AND_CODE+then-top-ge2 w ↦
+          rw (w.stack-is, w.top-is) (passed_join _ _ _ _ _ _ inv room _ refl w.if-op-lt-SEQ_CODE.false w.if-op-eq-OPT_CODE.false w.if-op-eq-PLUS_CODE.false w.if-op-lt-AND_CODE.true w.if-top-ge2.true _ w.joined.ensures)
+      | else-op-lt-SEQ_CODE+else-op-eq-OPT_CODE+else-op-eq-PLUS_CODE+then-op-lt-AND_CODE+else-top-ge2 w ↦
+          rw (w.stack-is, w.top-is) (passed_join_none _ _ _ _ _ _ inv room _ refl w.if-op-lt-SEQ_CODE.false w.if-op-eq-OPT_CODE.false w.if-op-eq-PLUS_CODE.false w.if-op-lt-AND_CODE.true w.if-top-ge2.false)
+      | else-op-lt-SEQ_CODE+else-op-eq-OPT_CODE+else-op-eq-PLUS_CODE+else-op-lt-AND_CODE w ↦
+          rw (w.stack-is, w.top-is) (passed_other _ _ _ _ _ _ inv room _ refl w.if-op-lt-AND_CODE.false)
     ]
 
 pub returns : goal.returns

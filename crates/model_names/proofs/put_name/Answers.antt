@@ -5,4 +5,4 @@ use Rattle.model_names.specs.Shared.{places_of_put}
 use Rattle.model_names.proofs.put_name.Goals as goal
 
 pub returns : goal.returns
-returns c = (places_of_put _ _ _ _ (omega (arith, c.whole.ensures)), refl)
+returns c = (places_of_put _ _ _ _ (omega arith), refl)

@@ -6,4 +6,3 @@ use Rattle.model_pairs.proofs.beside.Given as goal
 
 abbrev pub invariant-loop-u : goal.invariant-loop-u
 invariant-loop-u l = (l.u ≤ l.n + 1) × Beside (row_in l.table) l.p l.u l.set
-

@@ -7,4 +7,3 @@ use Rattle.model_pairs.proofs.first_pair.Given as goal
 
 abbrev pub invariant-loop-p : goal.invariant-loop-p
 invariant-loop-p l = (1 ≤ l.p) × (l.p ≤ l.n + 1) × ((F : ℕ → ℕ → Bool) → Tells l.table l.n l.code l.and F → SeeksPair l.s l.names F l.n l.p)
-

@@ -8,4 +8,3 @@ use Rattle.model_pairs.proofs.with_next.Given as goal
 
 abbrev pub invariant-loop-q : goal.invariant-loop-q
 invariant-loop-q l = (l.q ≤ POSITIONS) × Added (λ (k : ℕ). is_next (get_or l.next k 0)) l.initial.more l.more l.q
-

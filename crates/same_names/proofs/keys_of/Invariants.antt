@@ -5,4 +5,3 @@ use Rattle.same_names.proofs.keys_of.Given as goal
 
 abbrev pub invariant-loop-p : goal.invariant-loop-p
 invariant-loop-p l = (1 ≤ l.p) × (l.p ≤ l.n + 1) × Keyed l.s l.names l.keys l.p
-

@@ -5,4 +5,3 @@ use Rattle.same_names.proofs.same_name.Given as goal
 
 abbrev pub invariant-loop-i : goal.invariant-loop-i
 invariant-loop-i l = (l.q ≤ l.i) × (l.i ≤ l.n + 1) × Unlike l.s l.names l.n l.p l.q l.i
-

@@ -6,4 +6,3 @@ use Rattle.same_names.proofs.shares_key.Given as goal
 
 abbrev pub invariant-loop-x : goal.invariant-loop-x
 invariant-loop-x l = Shares l.keys (get_or l.keys l.p 0) l.n l.p l.some l.x
-
