@@ -4,14 +4,18 @@ use Rattle.rules.specs.Settings.{Settings}
 use Rattle.rules.specs.TypeFile.{Element}
 use Rattle.rules.specs.Judge.{Answer, refusal, acceptance, Refuses, Accepts, record_width}
 use Rattle.rules.specs.Bytes.{element_limit}
+use Rattle.text.specs.declared.Fault.{Fault}
 use Rattle.element_names.specs.Names.{Recorded}
 use Rattle.attribute_lists.specs.Listed.{HeadedAs}
 use Rattle.type_judge.specs.declared.TypeFault.{TypeFault}
 use Rattle.type_judge.specs.declared.TypeFault.TheVariants.{Malformed, Ambiguous}
 
 -- The paper's numbers for each refusal of a type.
+abbrev pub refusal_at : Fault → Answer
+refusal_at f = refusal f.number f.at 0 0
+
 abbrev pub refusal_by : TypeFault → Answer
-refusal_by (Malformed f) = refusal f.number f.at 0 0
+refusal_by (Malformed f) = refusal_at f
 refusal_by (Ambiguous c) = refusal 9 c.at c.first c.second
 
 -- The paper's numbers for each answer of the judge.

@@ -1,5 +1,5 @@
 -- Laws of the verdict on a type file, and of the lent buffer.
-use Rattle.std.specs.Prelude.{ℕ, ◌*◌, ◌≤◌, ◌<◌, ◌≡◌, refl, List, length, take, drop, Option, Some, None, Result, Ok, Err}
+use Rattle.std.specs.Prelude.{ℕ, ◌*◌, ◌≤◌, ◌<◌, ◌≡◌, refl, List, length, take, drop, Option, Some, None, Result, Ok, Err, IsErrAnd}
 use Rattle.std.proofs.Common.{ap, arith, length-append, take-append-drop}
 use Rattle.rules.specs.Settings.{Settings}
 use Rattle.rules.specs.Lent.{Lent, standing, room, filled_with, zeroed}
@@ -18,6 +18,11 @@ use Rattle.attribute_lists.specs.Listed.{HeadedAs}
 use Rattle.type_file.specs.File.{MeetsFile}
 use Rattle.type_judge.specs.Decides.{answer_of, refusal_by, Decides}
 
+-- What a `?` gives, which makes this of an error.
+pub raised : {A E : Type 0} {x : E} (r : Result A E) → IsErrAnd r (λ e. e ≡ x) → r ≡ Err x
+raised (Ok _) h = elim h [ ]
+raised (Err e) h = ap Err h
+
 -- The verdict on a type file that was refused, or read.
 module _ (c : Settings) (s : List ℕ) (room : ℕ) (legible : Legible c s) where
   pub decides_malformed : (elements heads : List ℕ) (f : Fault) → MeetsFile c.name_length s elements heads (Err f) (type_file c.name_length s) → Refuses c s room (refusal f.number f.at 0 0)
@@ -33,17 +38,20 @@ module _ (c : Settings) (s : List ℕ) (room : ℕ) (legible : Legible c s) wher
       let (q, z) = place_some (first_repeated es) e in
       repeated legible es y (omega arith) (ap (λ (k : ℕ). refusal 25 k 0 0) q)
 
-  module _ (es : List Element) (y : type_file c.name_length s ≡ got es) (none : first_repeated es ≡ 0) where
-    pub decides_ambiguous : (x : Clash) → Pending s (Some x) es → Refuses c s room (refusal 9 x.at x.first x.second)
-    decides_ambiguous x h = ambiguous legible es y none x.at x.first x.second h refl
+  module _ (es : List Element) (y : type_file c.name_length s ≡ got es) (none : first_repeated es ≡ 0) (o : Option Clash) (h : Pending s o es) where
+    pub decides_ambiguous : (x : Clash) → o ≡ Some x → Refuses c s room (refusal 9 x.at x.first x.second)
+    decides_ambiguous x e = ambiguous legible es y none x.at x.first x.second (rw e at h) refl
 
-    module _ (h : Pending s None es) where
+    module _ (e : o ≡ None) where
+      unambiguous : Pending s None es
+      unambiguous = rw e at h
+
       pub decides_full : (n : ℕ) → n ≡ length es → room < record_width * n → Refuses c s room (refusal 19 0 0 0)
-      decides_full n e l = no_room legible es y none h (rw e at l) refl
+      decides_full n e l = no_room legible es y none unambiguous (rw e at l) refl
 
       pub decides_accepted : (elements heads : List ℕ) (p : Progress) → KeepsProgress s elements p es → HeadedAs c.name_length s heads es → record_width * p.count ≤ room → Decides c s room elements heads (Ok p.count)
       decides_accepted elements heads p k u l =
-          let all : Accepts c s es = record { legible = legible; elements = y; unrepeated = none; unambiguous = h } in
+          let all : Accepts c s es = record { legible = legible; elements = y; unrepeated = none; unambiguous = unambiguous } in
           (es, all, k.counted, rw k.counted at l, k.room, k.recorded, u)
 
 -- What the lent buffer holds after the verdict.
