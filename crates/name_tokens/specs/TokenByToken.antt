@@ -10,8 +10,7 @@ use Rattle.rules.specs.Reading.{Reading, refused, got, and_then}
 use Rattle.rules.specs.Attributes.{Part}
 use Rattle.rules.specs.TypeFile.{same_name, is_token, group_token, TokensEnd, is_token_connector, group_tokens, token_group}
 use Rattle.text.specs.Words.{test_in}
-use Rattle.text.specs.declared.Fault.{Fault}
-use Rattle.name_tokens.specs.Tokens.{part_in, parts_of, token_of, TokenIn, ReadAs}
+use Rattle.name_tokens.specs.Tokens.{part_in, parts_of, ReadAs}
 
 -- A table holds the tokens that were seen.
 

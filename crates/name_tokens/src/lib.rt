@@ -20,11 +20,6 @@ pub struct Tokens {
     pub at: usize,
 }
 
-// The table has room for so many numbers.
-fn whole(seen: [u16; TOKENS])
-    ensures { length seen ≡ TOKENS }
-{}
-
 // Whether the k-th token, from 0, is the one of this size at `at`, folded.
 fn is_same(s: &[u8], seen: &[u16; TOKENS], k: usize, at: usize, size: usize) -> bool
     requires { (k < GRPCNT * ATTCNT) × (at < 4294967296) × (size < 4294967296) }
@@ -42,18 +37,23 @@ fn is_seen(s: &[u8], seen: &[u16; TOKENS], n: usize, at: usize, size: usize) -> 
     requires { (n ≤ GRPCNT * ATTCNT) × (at < 4294967296) × (size < 4294967296) }
     ensures { result ≡ is_token s.now (parts_of seen.now n) at size }
 {
-    let mut k = 0;
-    while k < n {
+    for k in 0..n {
         if is_same(s, seen, k, at, size) {
             return true;
         }
-        k += 1;
     }
     false
 }
 
 // The token at i, the k-th of its group from 0, after n of the list, and where it ends.
-fn token_at(long: usize, s: &[u8], i: usize, k: usize, seen: &[u16; TOKENS], n: usize) -> Reading<usize>
+fn token_at(
+    long: usize,
+    s: &[u8],
+    i: usize,
+    k: usize,
+    seen: &[u16; TOKENS],
+    n: usize,
+) -> Reading<usize>
     requires { (i ≤ length s.now) × (length s.now ≤ type_limit) × (n ≤ GRPCNT * ATTCNT) }
     ensures result_value { (ts ps : List Part) → length ps ≡ k → parts_of seen.now n ≡ ts ++ ps → token_of i result ≡ group_token long s.now ts ps i }
     ensures token_in { TokenIn (length s.now) i k result }
@@ -77,30 +77,11 @@ fn token_at(long: usize, s: &[u8], i: usize, k: usize, seen: &[u16; TOKENS], n: 
     Ok(e)
 }
 
-// Whether a byte may join the tokens of a group.
-fn is_connector(b: u8) -> bool
-    ensures { result ≡ is_token_connector b }
-{
-    if b == b',' {
-        return true;
-    }
-    if b == b'|' {
-        return true;
-    }
-    b == b'&'
-}
-
 // Whether b joins tokens where c joined those before, 0 for none.
 fn joins(c: u8, b: u8) -> bool
     ensures { result ≡ (is_token_connector b && (eqb c 0 || eqb c b)) }
 {
-    if !is_connector(b) {
-        return false;
-    }
-    if c == 0 {
-        return true;
-    }
-    c == b
+    words::is_token_connector(b) && (c == 0 || c == b)
 }
 
 // The token of this size at `at` is the n-th of the list, from 0.
@@ -108,13 +89,18 @@ fn put_token(seen: &mut [u16; TOKENS], n: usize, at: usize, size: usize)
     requires { (n < GRPCNT * ATTCNT) × (at < 65536) × (size < 65536) }
     ensures { parts_of seen.new (n + 1) ≡ parts_of seen.old n ++ record { at = at; size = size } ∷ [] }
 {
-    whole(*seen);
     seen[2 * n] = at as u16;
     seen[2 * n + 1] = size as u16;
 }
 
 // The group whose "(" stands at `at`, in a list that has n tokens so far. Where it is refused, what `seen` holds is not decided.
-pub fn group_at(long: usize, s: &[u8], at: usize, seen: &mut [u16; TOKENS], n: usize) -> Reading<Tokens>
+pub fn group_at(
+    long: usize,
+    s: &[u8],
+    at: usize,
+    seen: &mut [u16; TOKENS],
+    n: usize,
+) -> Reading<Tokens>
     requires { (at < length s.now) × (length s.now ≤ type_limit) × (n + GRPCNT ≤ GRPCNT * ATTCNT) }
     ensures meets_group { MeetsGroup seen.new n (parts_of seen.old n) result (token_group long s.now (parts_of seen.old n) at) }
     ensures group_in { GroupIn (length s.now) at n result }
@@ -129,7 +115,10 @@ pub fn group_at(long: usize, s: &[u8], at: usize, seen: &mut [u16; TOKENS], n: u
         let j = text::separators_end(s, e);
         let b = text::byte(s, j);
         if b == b')' {
-            return Ok(Tokens { count: m, at: j + 1 });
+            return Ok(Tokens {
+                count: m,
+                at: j + 1,
+            });
         }
         if b == b'%' {
             return Err(Refusal::LeftOut.at(j));

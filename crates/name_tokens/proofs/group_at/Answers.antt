@@ -1,8 +1,8 @@
-use Prim.Native.Nat.{ℕ, ◌+◌, ◌-◌, ◌≤◌, ◌<◌}
+use Prim.Native.Nat.{◌+◌, ◌<◌}
 use mathlib.Core.Path.{refl, sym, ◌∙◌, ap}
 use native.Mathlib.Omega.{arith}
 use lib.ListN.{length}
-use Rattle.rules.specs.Bytes.{GRPC, GRPCNT}
+use Rattle.rules.specs.Bytes.{GRPC}
 use Rattle.text.specs.Refusal.{refusal_of}
 use Rattle.text.specs.Words.{byte_is_in, separators_end_from, separators_end_le, passed_on}
 use Rattle.name_tokens.specs.TokenByToken.{goes_first, goes_refused, goes_closed, goes_on, goes_percent, goes_unfit, joins_in}

@@ -6,8 +6,7 @@ use Rattle.name_tokens.specs.TokenByToken.{seen_none, seen_turn, seen_found}
 use Rattle.name_tokens.proofs.is_seen.Goals as goal
 
 pub loop-k-init : goal.loop-k-init
-loop-k-init c = let a = c.args in
-    (omega arith, seen_none a.s.now a.seen.now a.at a.size)
+loop-k-init c = seen_none c.args.s.now c.args.seen.now c.args.at c.args.size
 
 pub returns-then-is_same : goal.returns-then-is_same
 returns-then-is_same c = let a = c.args in
@@ -15,9 +14,9 @@ returns-then-is_same c = let a = c.args in
 
 pub loop-k-preserved : goal.loop-k-preserved
 loop-k-preserved c = let a = c.args in
-    (omega arith, seen_turn a.s.now a.seen.now a.at a.size _ c.loop-k.invariant.1 c.is_same.ensures c.if-is_same.false)
+    seen_turn a.s.now a.seen.now a.at a.size _ c.loop-k.invariant c.is_same.ensures c.if-is_same.false
 
 pub returns : goal.returns
 returns c = let a = c.args in
-    let whole : c.loop-k.k ≡ a.n = omega (arith, c.loop-k.invariant.0) in
-    sym (ap (λ m. is_token a.s.now (parts_of a.seen.now m) a.at a.size) (sym whole) ∙ c.loop-k.invariant.1)
+    let whole : c.loop-k.k ≡ a.n = omega (arith, c.loop-k.auto.k-end, c.loop-k-test.false) in
+    sym (ap (λ m. is_token a.s.now (parts_of a.seen.now m) a.at a.size) (sym whole) ∙ c.loop-k.invariant)

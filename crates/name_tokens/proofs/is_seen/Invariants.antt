@@ -1,5 +1,4 @@
 -- `is_seen` meets its contract. The invariant: none of the tokens before the k-th is the one that is looked for.
-use Prim.Native.Nat.{◌-◌, ◌≤◌}
 use mathlib.Core.Path.{◌≡◌}
 use mathlib.Core.Bool.{false}
 use Rattle.rules.specs.TypeFile.{is_token}
@@ -7,7 +6,4 @@ use Rattle.name_tokens.specs.Tokens.{parts_of}
 use Rattle.name_tokens.proofs.is_seen.Given as goal
 
 abbrev pub invariant-loop-k : goal.invariant-loop-k
-invariant-loop-k l = (l.k ≤ l.n) × (is_token l.s (parts_of l.seen l.k) l.at l.size ≡ false)
-
-abbrev pub decreases-loop-k : goal.decreases-loop-k
-decreases-loop-k l = l.n - l.k
+invariant-loop-k l = is_token l.s (parts_of l.seen l.k) l.at l.size ≡ false

@@ -4,4 +4,4 @@ use Rattle.name_tokens.specs.TokenByToken.{parts_of_put}
 use Rattle.name_tokens.proofs.put_token.Goals as goal
 
 pub returns : goal.returns
-returns c = parts_of_put _ _ _ _ (omega (arith, c.whole.ensures))
+returns c = parts_of_put _ _ _ _ (omega (arith, c.told-seen))
