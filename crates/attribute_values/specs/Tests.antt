@@ -1,11 +1,13 @@
 -- A part of a text, and the bytes of a value, by the tests that the code makes.
-use Rattle.std.specs.Prelude.{ℕ, ◌+◌, ◌-◌, ◌≤◌, ◌<◌, ◌≡◌, Bool, true, false, List, [], length, take, drop, eqb}
-use Rattle.std.proofs.Common.{sym}
+use Rattle.std.specs.Prelude.{ℕ, suc, ◌+◌, ◌-◌, ◌≤◌, ◌<◌, ◌≡◌, Bool, true, false, not, ◌||◌, List, [], ◌∷◌, length, take, drop, eqb}
+use Rattle.std.specs.List.{list_all}
+use Rattle.std.proofs.Math.Path.{refl}
+use Rattle.std.proofs.Common.{sym, ◌∙◌}
 use native.Mathlib.Omega.{arith}
-use borrow.Author.Tests.{eq-eqb, ne_eqb, le-leb, lt-leb}
-use Rattle.rules.specs.Bytes.{byte_at, letter, digit, name_byte, span, name_end}
-use Rattle.rules.specs.Attributes.{every, number, name, fits}
-use Rattle.text.specs.Words.{spanned, before_all, before_turn, span_end}
+use borrow.Author.Tests.{le-leb, lt-leb}
+use Rattle.rules.specs.Bytes.{byte_at, letter, digit, name_byte, span, name_end, TAB, RS, RE}
+use Rattle.rules.specs.Attributes.{every, cdata, number, name, fits}
+use Rattle.basic_laws.specs.Truth.{bool_cases}
 use Rattle.attribute_values.specs.Parts.{part_in}
 
 -- A part that lies in the text, and one that does not.
@@ -19,19 +21,25 @@ part_out t at size h = rw (part_in, lt-leb _ _ h)
 pub part_to : (t : List ℕ) (at size : ℕ) → at + size ≤ length t → take (at + size - at) (drop at t) ≡ part_in t at size
 part_to t at size h = let e : at + size - at ≡ size = omega arith in rw e (sym (part_in_lem t at size h))
 
--- All bytes pass the test: the loop that looks at one after the other, where it is stopped and where it comes to the end.
-module _ (t : ℕ → Bool) (v : List ℕ) (i : ℕ) (inv : i + span t (drop i v) ≡ span t v) where
-  pub every_stop : i < length v → t (byte_at v i) ≡ false → every t v ≡ false
-  every_stop h q = let w : i ≡ span t v = span_end t v i _ q inv in ne_eqb (span t v) (length v) (λ e. omega arith)
+more : (m n : ℕ) → eqb m n ≡ eqb (suc m) (suc n)
+more m n = grind arith
 
-  pub every_all : length v ≤ i → i ≤ length v → every t v ≡ true
-  every_all h l =
-      let w : i ≡ span t v = before_all _ _ (spanned t) v i _ h inv in
-      let e : span t v ≡ length v = omega arith in
-      eq-eqb _ _ e
+none : (n : ℕ) → false ≡ eqb 0 (suc n)
+none n = grind arith
 
-  pub every_turn : i < length v → t (byte_at v i) ≡ true → i + 1 + span t (drop (i + 1) v) ≡ span t v
-  every_turn h q = before_turn _ _ (spanned t) v i _ h (rw q) inv
+-- All bytes pass the test, in the library's words.
+pub all_every : (t : ℕ → Bool) (v : List ℕ) → list_all t v ≡ every t v
+unfolding span
+all_every t [] = refl
+all_every t (x ∷ xs) = bool_cases (t x) (λ e. rw (e, span) (all_every t xs ∙ more (span t xs) (length xs))) (λ e. rw (e, span) (none (length xs)))
+
+-- CDATA: no byte 9, 10 or 13.
+abbrev pub plain : ℕ → Bool
+plain b = not (eqb b TAB || (eqb b RS || eqb b RE))
+
+pub cdata_is : (long : ℕ) (s v : List ℕ) → list_all plain v ≡ fits long s cdata v
+unfolding fits
+cdata_is long s v = all_every plain v
 
 -- NUMBER: 1 to so many bytes, all of them digits.
 module _ (long : ℕ) (s v : List ℕ) where

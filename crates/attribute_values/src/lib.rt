@@ -3,13 +3,14 @@
 // A declared value is a number: 0 CDATA, 1 NUMBER, 2 NAME, else where the "(" of a name token group stands in the type file.
 #![tactic(auto)]
 
+ghost use Rattle.std.specs.List.{list_all};
 ghost use Rattle.std.specs.Prelude.{◌≡◌, ◌||◌, List, ℕ, ◌+◌, ◌-◌, ◌≤◌, ◌<◌, length, eqb};
 ghost use Rattle.rules.specs.Bytes.{digit, RE, RS, TAB, type_limit};
-ghost use Rattle.rules.specs.Attributes.{Part, DeclaredValue, cdata, number, name, is_one_of};
+ghost use Rattle.rules.specs.Attributes.{Part, DeclaredValue, number, name, is_one_of};
 ghost use Rattle.rules.specs.Attributes as rules;
 ghost use Rattle.rules.specs.Given.{value_bytes};
-ghost use Rattle.rules.specs.TypeFile.{is_token_connector};
 ghost use Rattle.attribute_values.specs.Parts.{part_in, is_same, GroupAt, DeclaredAs};
+ghost use Rattle.attribute_values.specs.Tests.{plain};
 
 // A part of a text; none of it where the part does not lie in it.
 fn part(t: &[u8], at: usize, size: usize) -> &[u8]
@@ -39,57 +40,37 @@ pub fn value<'a>(s: &'a [u8], d: &'a [u8], is_written: bool, at: usize, size: us
 fn is_break(b: u8) -> bool
     ensures { result ≡ (eqb b TAB || (eqb b RS || eqb b RE)) }
 {
-    if b == b'\t' {
-        return true;
-    }
-    if b == b'\n' {
-        return true;
-    }
-    b == b'\r'
+    b == b'\t' || b == b'\n' || b == b'\r'
 }
 
 // Whether no byte 9, 10 or 13 is in it.
 fn is_cdata(v: &[u8]) -> bool
-    ensures { (long : ℕ) (s : List ℕ) → result ≡ rules.fits long s cdata v.now }
+    ensures { result ≡ list_all plain v.now }
 {
-    let mut i = 0;
-    while i < v.len() {
-        if is_break(v[i]) {
-            return false;
-        }
-        i += 1;
-    }
-    true
+    v.iter().all(|b| !is_break(*b))
 }
 
 // Whether a byte is a digit.
+#[tactic(auto, unfolding(rules::specs::Bytes::digit))]
 fn is_digit(b: u8) -> bool
     ensures { result ≡ digit b }
 {
-    if b < b'0' {
-        return false;
-    }
-    b <= b'9'
+    b'0' <= b && b <= b'9'
+}
+
+// Whether all of them are digits.
+fn is_digits(v: &[u8]) -> bool
+    ensures { result ≡ list_all digit v.now }
+{
+    v.iter().all(|b| is_digit(*b))
 }
 
 // Whether it is 1 to `long` digits.
+#[tactic(auto, unfolding(rules::specs::Attributes::fits))]
 fn is_number(long: usize, v: &[u8]) -> bool
     ensures { (s : List ℕ) → result ≡ rules.fits long s number v.now }
 {
-    if v.len() == 0 {
-        return false;
-    }
-    if long < v.len() {
-        return false;
-    }
-    let mut i = 0;
-    while i < v.len() {
-        if !is_digit(v[i]) {
-            return false;
-        }
-        i += 1;
-    }
-    true
+    1 <= v.len() && v.len() <= long && is_digits(v)
 }
 
 // Whether it is a name of at most `long` bytes.
@@ -105,29 +86,12 @@ fn is_name(long: usize, v: &[u8]) -> bool
     text::name_end(v, 0) == v.len()
 }
 
-// Whether a byte may join the tokens of a group.
-fn is_connector(b: u8) -> bool
-    ensures { result ≡ is_token_connector b }
-{
-    if b == b',' {
-        return true;
-    }
-    if b == b'|' {
-        return true;
-    }
-    b == b'&'
-}
-
 // Whether the token from i to e is the value, folded.
 fn is_token(s: &[u8], i: usize, e: usize, v: &[u8]) -> bool
     requires { (i ≤ e) × (e ≤ length s.now) }
     ensures { result ≡ is_same s.now (record { at = i; size = e - i }) v.now }
 {
-    let n = v.len();
-    if e - i != n {
-        return false;
-    }
-    words::same_within(s, i, v, 0, n)
+    e - i == v.len() && words::same_within(s, i, v, 0, v.len())
 }
 
 // Whether it is one of the tokens of the group whose "(" stands at `at`, folded. Where no group stands there the answer is not decided.
@@ -145,7 +109,7 @@ fn is_in_group(s: &[u8], at: usize, v: &[u8]) -> bool
             return true;
         }
         let j = text::separators_end(s, e);
-        if !is_connector(text::byte(s, j)) {
+        if !words::is_token_connector(text::byte(s, j)) {
             return false;
         }
         i = text::separators_end(s, j + 1);

@@ -1,13 +1,14 @@
 -- `fits` meets its contract: which declared value it is, by the number.
 use mathlib.Core.Path.{sym, ◌∙◌, ap}
 use Rattle.rules.specs.Attributes.{fits}
+use Rattle.attribute_values.specs.Tests.{cdata_is}
 use Rattle.attribute_values.specs.Groups.{declared_cdata, declared_number, declared_name, declared_tokens}
 use Rattle.attribute_values.proofs.fits.Goals as goal
 
 pub returns-then-x-eq0 : goal.returns-then-x-eq0
 returns-then-x-eq0 c = let a = c.args in
     let o = a.long in
-    λ y d. c.is_cdata.ensures o a.s.now ∙ ap (λ x. fits o a.s.now x a.v.now) (sym (declared_cdata o a.s.now d c.if-x-eq0.true))
+    λ y d. c.is_cdata.ensures ∙ cdata_is o a.s.now a.v.now ∙ ap (λ x. fits o a.s.now x a.v.now) (sym (declared_cdata o a.s.now d c.if-x-eq0.true))
 
 pub returns-then-x-eq1 : goal.returns-then-x-eq1
 returns-then-x-eq1 c = let a = c.args in

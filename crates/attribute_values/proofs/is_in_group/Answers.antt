@@ -31,26 +31,26 @@ pub separators_end-j-requires : goal.separators_end-j-requires
 separators_end-j-requires c = let s = c.args.s.now in
     omega (arith, name_end_le s c.loop-at.i c.loop-at.invariant.0)
 
-pub returns-then-not-is_connector : goal.returns-then-not-is_connector
-returns-then-not-is_connector c = let a = c.args in
+pub returns-then-not-is_token_connector : goal.returns-then-not-is_token_connector
+returns-then-not-is_token_connector c = let a = c.args in
     λ d ps g.
     sym (group_lacks a.s.now a.v.now ps c.loop-at.i (c.loop-at.invariant.1 d ps g) _ c.name_end-e.ensures c.is_token.ensures c.if-is_token.false
-    _ c.separators_end-j.ensures _ c.byte.ensures c.is_connector.ensures c.if-not-is_connector.true)
+    _ c.separators_end-j.ensures _ c.byte.ensures c.is_token_connector.ensures c.if-not-is_token_connector.true)
 
 pub overflow_add-j : goal.overflow_add-j
 overflow_add-j c = let s = c.args.s.now in
-    omega (arith, connector_in s c.separators_end-j.result _ c.byte.ensures c.is_connector.ensures c.if-not-is_connector.false)
+    omega (arith, connector_in s c.separators_end-j.result _ c.byte.ensures c.is_token_connector.ensures c.if-not-is_token_connector.false)
 
 pub separators_end-i-requires-in-loop-at : goal.separators_end-i-requires-in-loop-at
 separators_end-i-requires-in-loop-at c = let s = c.args.s.now in
-    omega (arith, connector_in s c.separators_end-j.result _ c.byte.ensures c.is_connector.ensures c.if-not-is_connector.false)
+    omega (arith, connector_in s c.separators_end-j.result _ c.byte.ensures c.is_token_connector.ensures c.if-not-is_token_connector.false)
 
 pub loop-at-smaller : goal.loop-at-smaller
 loop-at-smaller c = let s = c.args.s.now in
     let j = c.separators_end-j.result in
     omega (
       arith,
-      connector_in s j _ c.byte.ensures c.is_connector.ensures c.if-not-is_connector.false,
+      connector_in s j _ c.byte.ensures c.is_token_connector.ensures c.if-not-is_token_connector.false,
       separators_end_from s (j + 1),
       separators_end_from s c.name_end-e.result,
       name_end_from s c.loop-at.i,
@@ -59,9 +59,9 @@ loop-at-smaller c = let s = c.args.s.now in
 pub loop-at-preserved : goal.loop-at-preserved
 loop-at-preserved c = let a = c.args in
     let j = c.separators_end-j.result in
-    let inside = connector_in a.s.now j _ c.byte.ensures c.is_connector.ensures c.if-not-is_connector.false in (
+    let inside = connector_in a.s.now j _ c.byte.ensures c.is_token_connector.ensures c.if-not-is_token_connector.false in (
       omega (arith, separators_end_le a.s.now (j + 1) (omega (arith, inside))),
       λ d ps g.
           group_on a.s.now a.v.now ps c.loop-at.i (c.loop-at.invariant.1 d ps g) _ c.name_end-e.ensures c.is_token.ensures c.if-is_token.false
-          _ c.separators_end-j.ensures _ c.byte.ensures c.is_connector.ensures c.if-not-is_connector.false _ c.separators_end-i-in-loop-at.ensures,
+          _ c.separators_end-j.ensures _ c.byte.ensures c.is_token_connector.ensures c.if-not-is_token_connector.false _ c.separators_end-i-in-loop-at.ensures,
     )
