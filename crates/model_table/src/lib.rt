@@ -25,7 +25,6 @@ pub struct Part {
 pub fn clear(table: &mut [u8; MODEL])
     ensures { Fresh table.new }
 {
-    model_links::whole(*table);
     model_links::unbegin(table, 1, POSITIONS);
 }
 
@@ -69,17 +68,7 @@ fn close_starts(table: &mut [u8; MODEL], mid: usize, hi: usize, g: Part)
 fn part_seq(g: Part, h: Part) -> Part
     ensures { result ≡ part_seq g h }
 {
-    if g.nullable {
-        Part {
-            nullable: h.nullable,
-            required: h.required,
-        }
-    } else {
-        Part {
-            nullable: false,
-            required: g.required,
-        }
-    }
+    if g.nullable { h } else { g }
 }
 
 // The group g of [lo, mid), then the group h of [mid, hi).
@@ -98,16 +87,9 @@ pub fn join_seq(table: &mut [u8; MODEL], lo: usize, mid: usize, hi: usize, g: Pa
 pub fn join_alt(g: Part, h: Part) -> Part
     ensures { result ≡ part_alt g h }
 {
-    if g.nullable {
-        Part {
-            nullable: true,
-            required: 0,
-        }
-    } else {
-        Part {
-            nullable: h.nullable,
-            required: 0,
-        }
+    Part {
+        nullable: g.nullable | h.nullable,
+        required: 0,
     }
 }
 
@@ -115,16 +97,9 @@ pub fn join_alt(g: Part, h: Part) -> Part
 fn part_and(g: Part, h: Part) -> Part
     ensures { result ≡ part_and g h }
 {
-    if g.nullable {
-        Part {
-            nullable: h.nullable,
-            required: 0,
-        }
-    } else {
-        Part {
-            nullable: false,
-            required: 0,
-        }
+    Part {
+        nullable: g.nullable & h.nullable,
+        required: 0,
     }
 }
 
@@ -162,10 +137,6 @@ pub fn repeat(table: &mut [u8; MODEL], lo: usize, hi: usize)
 pub fn finish(table: &mut [u8; MODEL], g: Part)
     ensures { table.new ≡ finished table.old g }
 {
-    if g.nullable {
-        table[0] = 1;
-    } else {
-        table[0] = 0;
-    }
+    table[0] = u8::from(g.nullable);
     table[POSITIONS] = g.required;
 }
