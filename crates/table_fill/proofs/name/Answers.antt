@@ -8,8 +8,8 @@ use Rattle.table_fill.proofs.name.Goals as goal
 pub returns-then-size-eq0 : goal.returns-then-size-eq0
 returns-then-size-eq0 c = record { result_value = (λ es indexed. simp (eq-eqb _ _ (sym c.widened-size.ensures.0 ∙ c.if-size-eq0.true))); result_bound = (omega arith, omega arith) }
 
-pub find-f-requires : goal.find-f-requires
-find-f-requires c = (omega arith, omega arith, omega arith)
+pub find-requires : goal.find-requires
+find-requires c = (omega arith, omega arith, omega arith)
 
 pub returns : goal.returns
-returns c = let tested = c.before.before.before.before in record { result_value = (λ es indexed. name_some _ es _ _ _ _ tested.widened-size.ensures.0 c.place_at-at.ensures.0 tested.if-size-eq0.false (c.find-f.ensures.element_value es indexed).0); result_bound = name_fits _ c.find-f.ensures.element_le_element_limit.0 }
+returns c = record { result_value = (λ es indexed. name_some _ es _ _ _ _ c.widened-size.ensures.0 c.place_at-at.ensures.0 c.if-size-eq0.false (c.find.ensures.element_value es indexed).0); result_bound = name_fits _ c.find.ensures.element_le_element_limit.0 }
