@@ -42,8 +42,7 @@ fn same_name(s: &[u8], a: usize, t: &[u8], b: usize, n: usize) -> bool
     requires { (1 ≤ n) × (a + n ≤ length s.now) × (b + n ≤ length t.now) }
     ensures { fold (byte_at s.now a) ≡ fold (byte_at t.now b) → result ≡ same_text s.now a t.now b n }
 {
-    let mut i = 1;
-    while i < n {
+    for i in 1..n {
         let x = s[a + i];
         let y = t[b + i];
         if x != y {
@@ -51,7 +50,6 @@ fn same_name(s: &[u8], a: usize, t: &[u8], b: usize, n: usize) -> bool
                 return false;
             }
         }
-        i += 1;
     }
     true
 }
@@ -149,9 +147,7 @@ pub fn fill_index(s: &[u8], elements: &[u32; RECORDS], count: usize, index: &mut
     ensures { (c : Settings) (es : List Element) → Accepts c s.now es → length es ≡ count →
         Recorded elements.now es → Indexed s.now es elements.now index.new }
 {
-    let mut k = count;
-    while 0 < k {
+    for k in (1..=count).rev() {
         put_index(s, elements, index, ElementNo(k));
-        k -= 1;
     }
 }

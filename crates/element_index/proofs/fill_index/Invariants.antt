@@ -13,6 +13,3 @@ invariant-loop-k l =
     (l.k ≤ l.count)
     × (l.count ≤ element_limit)
     × ((e : Settings) (es : List Element) → Accepts e l.s es → length es ≡ l.count → Recorded l.elements es → Filled l.s es l.index l.k)
-
-abbrev pub decreases-loop-k : goal.decreases-loop-k
-decreases-loop-k l = l.k

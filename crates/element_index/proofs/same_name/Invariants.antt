@@ -5,6 +5,3 @@ use Rattle.element_index.proofs.same_name.Given as goal
 
 abbrev pub invariant-loop-i : goal.invariant-loop-i
 invariant-loop-i l = fold (byte_at l.s l.a) ≡ fold (byte_at l.t l.b) → same_text l.s (l.a + l.i) l.t (l.b + l.i) (l.n - l.i) ≡ same_text l.s l.a l.t l.b l.n
-
-abbrev pub decreases-loop-i : goal.decreases-loop-i
-decreases-loop-i l = l.n - l.i
