@@ -22,12 +22,12 @@ use Rattle.type_tables.specs.Tables.{Tables}
 use Rattle.open_elements.specs.declared.OpenElements.{OpenElements}
 use Rattle.open_elements.specs.declared.Outcome.{Outcome}
 use Rattle.open_elements.specs.Stands.{fresh, Ranged, Stands}
-use Rattle.open_elements.specs.Becomes.{StandsWith, was_got}
+use Rattle.open_elements.specs.Becomes.{StandsWith}
 use Rattle.open_elements.specs.Methods.{stands_noted}
 use Rattle.placing.specs.Noting.{written_of}
 use Rattle.settling.specs.Settled.{takes, Settles, takes_start, takes_run}
 use Rattle.settling.specs.Steps.{Steps, steps_settle}
-use Rattle.closing.specs.Closed.{Tagged}
+use Rattle.closing.specs.Closed.{TaggedGot}
 use Rattle.acts.specs.Readings.{start_element_acts, take_data_acts, end_element_acts, passes_acts, document_acts}
 use Rattle.moments.specs.Moment.{Moment, Beside, Leads}
 use Rattle.moments.specs.Beside.{moment, moment_first, acts_beside, acts_begun}
@@ -68,21 +68,21 @@ module _ {s : List ℕ} {es : List Element} {rows places facts M : List ℕ} (ta
     abbrev noted : State → List Event
     noted z = ((z.events ++ ends) ++ h.starts) ++ written_of x h.opens h.taken at after
 
-    settled : x ≤ length es → r.number ≡ 0 → (z : State) → Moment es M bits z o → (y : State) × (takes s es x at after z ≡ got y) × StandsWith es M bits' r.open (noted z) y
-    settled most done z m = was_got at (StandsWith es M bits' r.open (noted z)) (takes s es x at after z) (h.settles s es tables z m.stands most after (λ some. refl)) done
+    settled : x ≤ length es → (z : State) → Moment es M bits z o → (y : State) × (takes s es x at after z ≡ got y) × StandsWith es M bits' r.open (noted z) y
+    settled most z m = h.settles s es tables z m.stands most after (λ some. refl)
 
     -- A start tag: the ends and the starts that it infers, then itself.
-    settles_leads : 1 ≤ x → x ≤ length es → r.number ≡ 0 → (z : State) → Moment es M bits z o → (y : State) × (start_element s es D x at after z ≡ got y) × Leads s es D rows M z o bits y r.open bits'
-    settles_leads some most done z m =
-        let (y, e, came) = settled most done z m in
+    settles_leads : 1 ≤ x → x ≤ length es → (z : State) → Moment es M bits z o → (y : State) × (start_element s es D x at after z ≡ got y) × Leads s es D rows M z o bits y r.open bits'
+    settles_leads some most z m =
+        let (y, e, came) = settled most z m in
         let i : start_element s es D x at after z ≡ got y = sym (takes_start s es at after z x some) ∙ e in
         (y, i, leads m (got_so (start_element_acts s es D x at after z (some, most) (omega (arith, m.many, m.ranged.few))) i) h.ranged came.0)
 
     -- A run of data: the ends and the starts that its first byte infers, then that byte. The further bytes of the run take the same place again, which
     -- leaves the program's open elements as they are.
-    data_leads : x ≡ 0 → r.number ≡ 0 → (z : State) → Moment es M bits z o → (y : State) × (take_data s es D at z ≡ got y) × Leads s es D rows M z o bits y r.open bits'
-    data_leads nothing done z m =
-        let (w, e, came) = settled (omega arith) done z m in
+    data_leads : x ≡ 0 → (z : State) → Moment es M bits z o → (y : State) × (take_data s es D at z ≡ got y) × Leads s es D rows M z o bits y r.open bits'
+    data_leads nothing z m =
+        let (w, e, came) = settled (omega arith) z m in
         let (y, settles, few, left) = run_taken s es D at (after - at) z w (sym (takes_run s es at after z x nothing) ∙ e) in
         let i = take_data_got s es D at z y settles few in
         let stands = stands_noted (subst (Stands es M bits' r.open) (sym left) came.0) (with_data at y.events) in
@@ -91,14 +91,14 @@ module _ {s : List ℕ} {es : List Element} {rows places facts M : List ℕ} (ta
   -- The same by the steps of the token in order, as the program takes them.
   module _ {lists marks : List ℕ} {x at after n : ℕ} {o : OpenElements} {bits numbers bytes : List ℕ} {q : OpenElements} {bits' numbers' bytes' : List ℕ} (h : Steps rows places facts M lists marks x at after n o bits numbers bytes q bits' numbers' bytes') where
     pub steps_lead : 1 ≤ x → x ≤ length es → (z : State) → Moment es M bits z o → (y : State) × (start_element s es D x at after z ≡ got y) × Leads s es D rows M z o bits y q bits'
-    steps_lead some most z m = settles_leads (steps_settle m.ranged (omega (arith, tables.few)) h) some most h.fine z m
+    steps_lead some most z m = settles_leads (steps_settle m.ranged (omega (arith, tables.few)) h) some most z m
 
     pub steps_data : x ≡ 0 → (z : State) → Moment es M bits z o → (y : State) × (take_data s es D at z ≡ got y) × Leads s es D rows M z o bits y q bits'
-    steps_data nothing z m = data_leads (steps_settle m.ranged (omega arith) h) nothing h.fine z m
+    steps_data nothing z m = data_leads (steps_settle m.ranged (omega arith) h) nothing z m
 
   -- An end tag (`end_tag` of closing): the ends that it infers, then itself.
-  pub tagged_leads : {x at after n : ℕ} {o : OpenElements} {numbers bytes : List ℕ} {r : Outcome} {numbers' bytes' : List ℕ} → Tagged facts x at after n o numbers bytes r numbers' bytes' → r.number ≡ 0 → {bits : List ℕ} (z : State) → Moment es M bits z o
+  pub tagged_leads : {x at after n : ℕ} {o : OpenElements} {numbers bytes : List ℕ} {r : Outcome} {numbers' bytes' : List ℕ} → TaggedGot facts x at after n o numbers bytes r numbers' bytes' → {bits : List ℕ} (z : State) → Moment es M bits z o
       → (y : State) × (end_element s es D x at after z ≡ got y) × Leads s es D rows M z o bits y r.open bits
-  tagged_leads {x} {at} {after} {r = r} h done {bits} z m =
-      let (y, e, came) = was_got at (StandsWith es M bits r.open (z.events ++ h.brings.events)) (end_element s es D x at after z) (h.closes s es tables.raised tables.facts_say M bits z m.stands) done in
+  tagged_leads {x} {at} {after} h {bits} z m =
+      let (y, e, came) = h.closes s es tables.raised tables.facts_say M bits z m.stands in
       (y, e, leads m (got_so (end_element_acts s es D x at after z (omega (arith, m.many, m.ranged.few))) e) h.brings.ranged came.0)

@@ -27,19 +27,19 @@ use Rattle.type_tables.specs.Tables.{Tables, CanTake}
 use Rattle.open_elements.specs.declared.OpenElements.{OpenElements}
 use Rattle.open_elements.specs.declared.Outcome.{Outcome}
 use Rattle.open_elements.specs.Stands.{Taking, Starting}
-use Rattle.open_elements.specs.Becomes.{StandsWith, was_got}
+use Rattle.open_elements.specs.Becomes.{StandsWith}
 use Rattle.open_elements.specs.Methods.{stands_required, stands_noted}
 use Rattle.ways.specs.declared.Way.{Way}
 use Rattle.ways.specs.declared.Way.TheVariants.{Taken, Inferred, Stuck}
 use Rattle.ways.specs.Asks.{token_of, token_of_number, token_of_declared, way_of, may_end, starts_of, place_of}
-use Rattle.placing.specs.Noting.{noting, written_of, Placed, opened_by}
+use Rattle.placing.specs.Noting.{noting, written_of, PlacedGot, opened_by}
 use Rattle.placing.specs.Places.{opened_ranged, opened_notes}
 use Rattle.inferring.specs.Inferring.{EndsTo, none, more, Stops, infer_one, Infers, InfersStart}
 use Rattle.inferring.specs.declared.Stop.{Stop}
 use Rattle.inferring.specs.Starts.{chain_infers}
-use Rattle.left_out_ends.specs.Until.{infer_ends, Until}
+use Rattle.left_out_ends.specs.Until.{infer_ends, UntilGot}
 use Rattle.left_out_ends.specs.Ends.{inferred_from}
-use Rattle.closing.specs.Closed.{Finished}
+use Rattle.closing.specs.Closed.{FinishedGot}
 use Rattle.acts.specs.Settled.{all_ended, all_started, Comes, left_out}
 use Rattle.acts.specs.Readings.{noted_acts, end_document_acts}
 use Rattle.acts.specs.Sequences.{acts_then, acts_last}
@@ -135,22 +135,19 @@ module _ {s : List ℕ} {es : List Element} {rows places facts M : List ℕ} (ta
   -- The place of a token (`placed` of placing) that is not refused there. What was found is the place as which the token fits, or starts that were inferred, so
   -- that nothing is taken yet in the current element.
   module _ {bits : List ℕ} (x : ℕ) {found : Way} {at after n : ℕ} {o : OpenElements} {numbers bytes : List ℕ} {r : Outcome} {bits' numbers' bytes' : List ℕ}
-      (h : Placed rows places facts M bits found x at after n o numbers bytes r bits' numbers' bytes') (most : x ≤ length es) (fine : r.number ≡ 0) (z : State) (m : Moment es M bits z o)
+      (h : PlacedGot rows places facts M bits found x at after n o numbers bytes r bits' numbers' bytes') (most : x ≤ length es) (z : State) (m : Moment es M bits z o)
       (right : (p : Place) → found ≡ Taken p → p.0 ≡ fitting s es (D s es) z.current (token_of x)) (new : (n : ℕ) → found ≡ Inferred n → z.current.taken ≡ []) where
-    some_place : h.p ≡ 0 → ⊥
-    some_place e = omega (arith, h.stuck e)
-
     place_fits : h.p ≡ fitting s es (D s es) z.current (token_of x)
     place_fits =
-        place_found _ _ found h.p (h.place s es tables m.stands.current.entered.declared most) some_place right
+        place_found _ _ found h.p (h.place s es tables m.stands.current.entered.declared most) h.some right
         (λ n e. ap₂ (λ (k : ℕ) (taken : List ℕ). (decided s es).fits k taken (token_of x)) (sym m.stands.current.entered.number) (sym (new n e)))
 
     fits_some : 1 ≤ fitting s es (D s es) z.current (token_of x)
-    fits_some = omega (arith, place_fits, not_none h.p some_place)
+    fits_some = omega (arith, place_fits, not_none h.p h.some)
 
     -- The place is taken as which the token fits: there is a moment, at which an element with a model is not open yet.
     pub placed_moment : Moment es M bits' (take_token s es (D s es) (token_of x) z) r.open
-    placed_moment = moment_took tables (D s es) (accepted_decided s es tables.accepted) m (fits (token_of x) fits_some) (subst (λ (p : ℕ). Taking rows M bits p o r.open bits') place_fits (h.taking fine))
+    placed_moment = moment_took tables (D s es) (accepted_decided s es tables.accepted) m (fits (token_of x) fits_some) (subst (λ (p : ℕ). Taking rows M bits p o r.open bits') place_fits h.taking)
 
     -- What is noted is what the rules note, once an element with a model is open.
     module _ (b : Bool) (none : x ≡ 0 → b ≡ false) (model : (x ≡ 0 → ⊥) → has_model (content_of es x) ≡ b) {q : OpenElements} (opened : q ≡ opened_by rows x b r.open) where
@@ -160,52 +157,51 @@ module _ {s : List ℕ} {es : List Element} {rows places facts M : List ℕ} (ta
       noted : (y : State) × (noting es x at after (take_place h.p z) ≡ got y) × StandsWith es M bits' q (z.events ++ written) y
       noted =
           let can : CanTake es z.current h.p = rw place_fits (can_take s es tables.accepted m (D s es) (accepted_decided s es tables.accepted) (fits (token_of x) fits_some)) in
-          was_got at (StandsWith es M bits' q (z.events ++ written)) (noting es x at after (take_place h.p z)) (opened_notes h fine b none opened tables m.stands can most model some_place after (λ some. refl)) fine
+          opened_notes h b none opened tables m.stands can most model after (λ some. refl)
 
   -- That of a start tag: one act, which opens its element or, of an EMPTY one, leaves what is open. The element is opened after `placed` (`start` of
   -- open_elements), where it has a model.
   pub places_leads : {bits : List ℕ} (x : ℕ) {found : Way} {at after n : ℕ} {o : OpenElements} {numbers bytes : List ℕ} {r : Outcome} {bits' numbers' bytes' : List ℕ}
-      → Placed rows places facts M bits found x at after n o numbers bytes r bits' numbers' bytes' → {q : OpenElements} → q ≡ opened_by rows x (has_model (content_of es x)) r.open
-      → 1 ≤ x → x ≤ length es → r.number ≡ 0 → (z : State) → Moment es M bits z o
+      → PlacedGot rows places facts M bits found x at after n o numbers bytes r bits' numbers' bytes' → {q : OpenElements} → q ≡ opened_by rows x (has_model (content_of es x)) r.open
+      → 1 ≤ x → x ≤ length es → (z : State) → Moment es M bits z o
       → ((p : Place) → found ≡ Taken p → p.0 ≡ fitting s es (D s es) z.current (token_of x)) → ((n : ℕ) → found ≡ Inferred n → z.current.taken ≡ [])
       → (y : State) × (noting es x at after (take_token s es (D s es) (token_of x) z) ≡ got y) × Leads s es (D s es) rows M z o bits y q bits'
-  places_leads zero h opened some most fine z m right new = absurd (omega arith)
-  places_leads (suc k) {at = at} {after} h opened some most fine z m right new =
+  places_leads zero h opened some most z m right new = absurd (omega arith)
+  places_leads (suc k) {at = at} {after} h opened some most z m right new =
       let b = has_model (content_of es (suc k)) in
       let none : suc k ≡ 0 → b ≡ false = (λ e. absurd (omega arith)) in
-      let (y, e, came) = noted (suc k) h most fine z m right new b none (λ i. refl) opened in
-      let same = place_fits (suc k) h most fine z m right new in
+      let (y, e, came) = noted (suc k) h most z m right new b none (λ i. refl) opened in
+      let same = place_fits (suc k) h most z m right new in
       let comes : Comes s es (D s es) (start (suc k)) at z (take_place h.p z) =
-      record { between = z; ended = all_ended; here = z; started = all_started; fits = fits_some (suc k) h most fine z m right new; taken = ap (λ (q : ℕ). take_place q z) same } in (
+      record { between = z; ended = all_ended; here = z; started = all_started; fits = fits_some (suc k) h most z m right new; taken = ap (λ (q : ℕ). take_place q z) same } in (
         y,
         ap (λ (q : ℕ). noting es (suc k) at after (take_place q z)) (sym same) ∙ e,
-        leads tables m (got_so (noted_acts s es (D s es) (suc k) at after z (take_place h.p z) (some, most) (moment_small m) comes) e) (opened_ranged h fine b none opened (omega (arith, most, tables.few))) came.0,
+        leads tables m (got_so (noted_acts s es (D s es) (suc k) at after z (take_place h.p z) (some, most) (moment_small m) comes) e) (opened_ranged h b none opened (omega (arith, most, tables.few))) came.0,
       )
 
   -- That of a run of data: one act, of its first byte. Each further byte takes the same place again, which leaves the program's open elements as they are.
   pub places_data : {bits : List ℕ} (x : ℕ) {found : Way} {at after n : ℕ} {o : OpenElements} {numbers bytes : List ℕ} {r : Outcome} {bits' numbers' bytes' : List ℕ}
-      → Placed rows places facts M bits found x at after n o numbers bytes r bits' numbers' bytes' → x ≡ 0 → r.number ≡ 0 → (z : State) → Moment es M bits z o
+      → PlacedGot rows places facts M bits found x at after n o numbers bytes r bits' numbers' bytes' → x ≡ 0 → (z : State) → Moment es M bits z o
       → ((p : Place) → found ≡ Taken p → p.0 ≡ fitting s es (D s es) z.current (token_of x)) → ((n : ℕ) → found ≡ Inferred n → z.current.taken ≡ [])
       → Leads s es (D s es) rows M z o bits (with_datum at (take_token s es (D s es) pcdata z)) r.open bits'
-  places_data (suc k) h nothing fine z m right new = absurd (omega arith)
-  places_data {bits} zero {at = at} {after} {r = r} {bits'} h nothing fine z m right new =
+  places_data (suc k) h nothing z m right new = absurd (omega arith)
+  places_data {bits} zero {at = at} {after} {r = r} {bits'} h nothing z m right new =
       let few = moment_small m in
-      let there = placed_moment zero h (omega arith) fine z m right new in
-      let byte : Act s es (D s es) z (with_datum at (take_token s es (D s es) pcdata z)) = data_byte_lem at (fits_some zero h (omega arith) fine z m right new) in
+      let there = placed_moment zero h (omega arith) z m right new in
+      let byte : Act s es (D s es) z (with_datum at (take_token s es (D s es) pcdata z)) = data_byte_lem at (fits_some zero h (omega arith) z m right new) in
       leads tables m (act.next few byte (act.still few)) h.ranged (stands_noted there.stands (with_data at z.events))
 
   -- The ends that are inferred until the current element is x, or nothing is around it (`end_until` of left_out_ends).
-  pub until_leads : {x at n : ℕ} {o : OpenElements} {numbers bytes : List ℕ} {r : Outcome} {numbers' bytes' : List ℕ} → Until facts x at n o numbers bytes r numbers' bytes' → r.number ≡ 0 → {bits : List ℕ} (z : State) → Moment es M bits z o
+  pub until_leads : {x at n : ℕ} {o : OpenElements} {numbers bytes : List ℕ} {r : Outcome} {numbers' bytes' : List ℕ} → UntilGot facts x at n o numbers bytes r numbers' bytes' → {bits : List ℕ} (z : State) → Moment es M bits z o
       → (y : State) × (infer_ends s es (D s es) x at z.around z.current z.events ≡ got y) × Leads s es (D s es) rows M z o bits y r.open bits
-  until_leads {x} {at} {r = r} h fine {bits} z m =
-      let (y, e, came) = was_got at (StandsWith es M bits r.open (z.events ++ h.brings.events)) (inferred_from s es (D s es) x at z) (h.ends s es tables.raised tables.facts_say M bits z m.stands) fine in
+  until_leads {x} {at} {r = r} h {bits} z m =
+      let (y, e, came) = h.ends s es tables.raised tables.facts_say M bits z m.stands in
       (y, e, leads tables m (got_so (ends_acts s es x at z.around z.current z.events (moment_small m)) e) h.brings.ranged came.0)
 
   -- The document's end (`finish` of closing), where it is not refused: the ends that it infers lead to where nothing is open, with the events that it brings.
   -- The state that it gives is not decided: nobody reads it.
-  pub finished_beside : {at n : ℕ} {o : OpenElements} {numbers bytes : List ℕ} {r : Outcome} {numbers' bytes' : List ℕ} (h : Finished facts at n o numbers bytes r numbers' bytes') → r.number ≡ 0 → {bits : List ℕ} (z : State) → Moment es M bits z o
+  pub finished_beside : {at n : ℕ} {o : OpenElements} {numbers bytes : List ℕ} {r : Outcome} {numbers' bytes' : List ℕ} (h : FinishedGot facts at n o numbers bytes r numbers' bytes') → {bits : List ℕ} (z : State) → Moment es M bits z o
       → (y : State) × Beside s es (D s es) rows M z o bits y × (y.around ≡ []) × (is_complete s es (D s es) y.current ≡ true) × (y.events ≡ z.events ++ h.brings.events)
-  finished_beside {at} h fine {bits} z m =
-      let (ev, e, are) = was_got at (λ (x : List Event). x ≡ z.events ++ h.brings.events) (end_document s es (D s es) at z) (h.ends s es tables.raised tables.facts_say M bits z m.stands) fine in
-      let over = got_so (end_document_acts s es (D s es) at z (moment_small m)) e in
-      (over.last, acts_beside tables (D s es) (accepted_decided s es tables.accepted) m over.acts, over.nothing, over.complete, over.events ∙ are)
+  finished_beside {at} h {bits} z m =
+      let over = got_so (end_document_acts s es (D s es) at z (moment_small m)) (h.ends s es tables.raised tables.facts_say M bits z m.stands) in
+      (over.last, acts_beside tables (D s es) (accepted_decided s es tables.accepted) m over.acts, over.nothing, over.complete, over.events)
