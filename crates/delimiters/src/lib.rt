@@ -15,10 +15,7 @@ pub fn is_end_tag(s: &[u8], i: usize) -> bool
     requires { i < length s.now }
     ensures { result ≡ (eqb (byte_at s.now (i + 1)) SOLIDUS && letter (byte_at s.now (i + 2))) }
 {
-    if text::byte(s, i + 1) != b'/' {
-        return false;
-    }
-    text::is_letter(text::byte(s, i + 2))
+    text::byte(s, i + 1) == b'/' && text::is_letter(text::byte(s, i + 2))
 }
 
 // Whether `--` stands behind `<!` at i.
@@ -26,30 +23,21 @@ pub fn dashes_at(s: &[u8], i: usize) -> bool
     requires { i < length s.now }
     ensures { result ≡ at_dashes s.now (i + 2) }
 {
-    if text::byte(s, i + 2) != b'-' {
-        return false;
-    }
-    text::byte(s, i + 2 + 1) == b'-'
+    text::byte(s, i + 2) == b'-' && text::byte(s, i + 2 + 1) == b'-'
 }
 
 // Whether `<!` before the byte b is a form that is left out.
 pub fn is_left_out(b: u8) -> bool
     ensures { result ≡ (letter b || eqb b DSO) }
 {
-    if text::is_letter(b) {
-        return true;
-    }
-    b == b'['
+    text::is_letter(b) || b == b'['
 }
 
 // Whether a byte is a letter or a digit.
 fn is_letter_or_digit(b: u8) -> bool
     ensures { result ≡ (letter b || (leb 48 b && leb b 57)) }
 {
-    if text::is_letter(b) {
-        return true;
-    }
-    b'0' <= b && b <= b'9'
+    text::is_letter(b) || b.is_ascii_digit()
 }
 
 // Whether an entity or character reference stands at i.
@@ -61,13 +49,7 @@ pub fn is_reference(s: &[u8], i: usize) -> bool
         return false;
     }
     let b = text::byte(s, i + 1);
-    if text::is_letter(b) {
-        return true;
-    }
-    if b != b'#' {
-        return false;
-    }
-    is_letter_or_digit(text::byte(s, i + 2))
+    text::is_letter(b) || b == b'#' && is_letter_or_digit(text::byte(s, i + 2))
 }
 
 // Whether `]]>` stands at i.
@@ -75,13 +57,7 @@ pub fn is_section_end(s: &[u8], i: usize) -> bool
     requires { i < length s.now }
     ensures { result ≡ is_section_end s.now i }
 {
-    if text::byte(s, i) != b']' {
-        return false;
-    }
-    if text::byte(s, i + 1) != b']' {
-        return false;
-    }
-    text::byte(s, i + 2) == b'>'
+    text::byte(s, i) == b']' && text::byte(s, i + 1) == b']' && text::byte(s, i + 2) == b'>'
 }
 
 // The table of byte classes.
