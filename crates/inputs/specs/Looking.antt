@@ -1,7 +1,7 @@
 -- Laws of the search for a byte that is not allowed, and of both inputs.
-use Rattle.std.specs.Prelude.{ℕ, zero, suc, ◌+◌, ◌≤◌, ◌<◌, ◌≡◌, Bool, true, false, List, ◌⊎◌, length, drop, eqb}
+use Rattle.std.specs.Prelude.{ℕ, zero, suc, ◌+◌, ◌≤◌, ◌<◌, ◌≡◌, Bool, true, false, List, max, length, drop, eqb}
 use Rattle.std.proofs.Math.Path.{refl}
-use Rattle.std.proofs.Common.{sym, ap, ◌∙◌, inl, inr, arith, eq-eqb, ne_eqb, eqb-true}
+use Rattle.std.proofs.Common.{sym, ap, ◌∙◌, arith, eq-eqb, ne_eqb, eqb-true}
 use Rattle.std.proofs.lemmas.Bool.{eqb-false}
 use Rattle.rules.specs.Settings.{Settings, is_offered}
 use Rattle.rules.specs.Bytes.{byte_at, allowed, span, document_limit, type_limit}
@@ -20,30 +20,25 @@ pub looked_none : (d : List ℕ) → Looked d 0 0
 looked_none d = record { here = omega arith; none = λ e. omega arith; some = λ h. omega arith }
 
 -- One byte more, of which x says whether it fails: what is kept is the larger of the two.
-module _ (d : List ℕ) (bad i x next : ℕ) (l : Looked d bad i) (h : i < length d) (e : x ≡ failing (allowed (byte_at d i))) where
-  passed : allowed (byte_at d i) ≡ true → next ≡ bad → Looked d next (i + 1)
-  unfolding allowed
-  passed q m = record {
-    here = omega arith;
-    none = λ z. span_turn allowed refl d i _ q (l.none (omega arith));
-    some = λ z. l.some (omega arith);
-  }
+pub looked_turn : (d : List ℕ) (bad i x : ℕ) → Looked d bad i → i < length d → x ≡ failing (allowed (byte_at d i)) → Looked d (max bad x) (i + 1)
+unfolding allowed
+looked_turn d bad i x l h e = by_byte (allowed (byte_at d i)) refl
+  where
+    none_before : (b : ℕ) → bad ≡ b → allowed (byte_at d i) ≡ false → span allowed d < length d
+    none_before zero z q = omega (arith, span_end allowed d i _ q (l.none z))
+    none_before (suc b) z q = l.some (omega arith)
 
-  failed : allowed (byte_at d i) ≡ false → 1 ≤ next → Looked d next (i + 1)
-  failed q m = record { here = omega arith; none = λ z. omega arith; some = λ z. before bad refl }
-    where
-      before : (b : ℕ) → bad ≡ b → span allowed d < length d
-      before zero z = omega (arith, span_end allowed d i _ q (l.none z))
-      before (suc b) z = l.some (omega arith)
-
-  pub looked_turn : ((bad < x) × (next ≡ x)) ⊎ ((x ≤ bad) × (next ≡ bad)) → Looked d next (i + 1)
-  looked_turn m = by_byte (allowed (byte_at d i)) refl m
-    where
-      by_byte : (b : Bool) → allowed (byte_at d i) ≡ b → ((bad < x) × (next ≡ x)) ⊎ ((x ≤ bad) × (next ≡ bad)) → Looked d next (i + 1)
-      by_byte true q (inl w) = absurd (omega (arith, rw q at e))
-      by_byte true q (inr w) = passed q w.1
-      by_byte false q (inl w) = failed q (omega (arith, rw q at e))
-      by_byte false q (inr w) = failed q (omega (arith, rw q at e))
+    by_byte : (b : Bool) → allowed (byte_at d i) ≡ b → Looked d (max bad x) (i + 1)
+    by_byte true q =
+        let fit : x ≡ 0 = rw q at e in
+        record {
+          here = omega arith;
+          none = λ z. span_turn allowed refl d i _ q (l.none (omega arith));
+          some = λ z. l.some (omega arith);
+        }
+    by_byte false q =
+        let unfit : x ≡ 1 = rw q at e in
+        record { here = omega arith; none = λ z. absurd (omega arith); some = λ z. none_before bad refl q }
 
 pub looked_all : (d : List ℕ) (bad i : ℕ) → Looked d bad i → length d ≤ i → eqb bad 0 ≡ is_clean d
 looked_all d bad i l h = by_bad bad refl

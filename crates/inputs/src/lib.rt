@@ -17,37 +17,31 @@ pub struct Settings {
 }
 
 // Whether a call takes these settings: the length that names may have is one from 8 to 32, the edition 1 or 2.
+#[tactic(auto, unfolding(rules::specs::Settings::is_offered))]
 pub fn is_offered(c: Settings) -> bool
     ensures { result ≡ is_offered (settings_of c) }
 {
-    if c.name_length < LEAST_NAME_LENGTH {
-        return false;
-    }
-    if MOST_NAME_LENGTH < c.name_length {
-        return false;
-    }
-    1 <= c.edition && c.edition <= 2
+    LEAST_NAME_LENGTH <= c.name_length
+        && c.name_length <= MOST_NAME_LENGTH
+        && 1 <= c.edition
+        && c.edition <= 2
 }
 
 // 1 for a byte that is not allowed, else 0.
 fn unfit(b: u8) -> u8
     ensures { result ≡ failing (allowed b) }
 {
-    if text::is_allowed(b) { 0 } else { 1 }
+    u8::from(!text::is_allowed(b))
 }
 
-// Whether all bytes are allowed. It looks at all of them, so that many can be looked at at a time.
+// Whether all bytes are allowed.
+// Kept: `all` would stop at the first that is not, and so look at one at a time; this looks at many at a time (tried-speed).
 pub fn all_allowed(d: &[u8]) -> bool
     ensures { result ≡ is_clean d.now }
 {
     let mut bad = 0u8;
-    let mut i = 0;
-    while i < d.len() {
-        let x = unfit(d[i]);
-        if bad < x {
-            bad = x;
-        }
-        i += 1;
+    for b in d {
+        bad = bad.max(unfit(*b));
     }
     bad == 0
 }

@@ -1,11 +1,6 @@
--- `all_allowed` meets its contract: after i turns `bad` is 0 exactly where the first i bytes are allowed.
-use Prim.Native.Nat.{◌-◌}
-use lib.ListN.{length}
+-- `all_allowed` meets its contract: `bad` is 0 exactly where the bytes that were looked at are allowed.
 use Rattle.inputs.specs.Looking.{Looked}
 use Rattle.inputs.proofs.all_allowed.Given as goal
 
-abbrev pub invariant-loop-i : goal.invariant-loop-i
-invariant-loop-i l = Looked l.d l.bad l.i
-
-abbrev pub decreases-loop-i : goal.decreases-loop-i
-decreases-loop-i l = length l.d - l.i
+abbrev pub invariant-loop-b : goal.invariant-loop-b
+invariant-loop-b l = Looked l.d l.bad l.b-index
