@@ -1,5 +1,5 @@
 -- Laws of the order: what was judged of the type, with a document of which so much is known.
-use Rattle.std.specs.Prelude.{ℕ, ◌<◌, ◌≤◌, ◌≡◌, refl, true, false, List, length, Result, Ok, Err}
+use Rattle.std.specs.Prelude.{ℕ, ◌<◌, ◌≤◌, ◌≡◌, refl, true, false, List, length, Result, Ok, Err, IsErrAnd, MatchResult}
 use Rattle.std.proofs.Common.{sym, ap, ◌∙◌, true≢false, arith}
 use Rattle.rules.specs.Settings.{Settings, is_offered}
 use Rattle.rules.specs.Bytes.{type_limit, document_limit}
@@ -12,26 +12,23 @@ use Rattle.text.specs.declared.Fault.{Fault}
 use Rattle.inputs.specs.Checks.{RefusesAlways}
 use Rattle.type_judge.specs.declared.TypeFault.{TypeFault}
 use Rattle.type_judge.specs.Decides.{Decides}
+use Rattle.type_judge.specs.Deciding.{raised}
 use Rattle.type_stage.specs.declared.Stopped.{Stopped}
 use Rattle.type_stage.specs.declared.Stopped.TheVariants.{Unread, Unclean, Judged}
 use Rattle.type_stage.specs.declared.Refused.{Refused}
 use Rattle.type_stage.specs.declared.Refused.TheVariants.{InType, InDocument}
-use Rattle.type_stage.specs.Stages.{Staged, OrderedAs, PartRefused, alone_of, is_unclean}
+use Rattle.type_stage.specs.Stages.{Staged, OrderedAs, PartRefused, refused_by, alone_of, is_unclean}
 
 -- The verdict on a legible type is its stage.
-module _ {c : Settings} {s : List ℕ} (elements heads : List ℕ) (t : Legible c s) (v : Result ℕ TypeFault) (decided : Legible c s → Decides c s RECORDS elements heads v) where
-  pub staged_accepted : (n : ℕ) → v ≡ Ok n → Staged c s elements heads (Ok n)
-  staged_accepted n e =
-      let (es, a, k, room, few, w, l) = rw e at (decided t) in
-      (es, a, sym k, w, l)
-
-  pub staged_judged : (x : TypeFault) → v ≡ Err x → Staged c s elements heads (Err (Judged x))
-  staged_judged x e = (t, rw e at (decided t))
+pub staged_by : {c : Settings} {s : List ℕ} (elements heads : List ℕ) → Legible c s → (v : Result ℕ TypeFault) (r : Result ℕ Stopped) → Decides c s RECORDS elements heads v
+    → MatchResult v (λ n. r ≡ Ok n) (λ x. IsErrAnd r (λ y. y ≡ Judged x)) → Staged c s elements heads r
+staged_by elements heads t (Ok n) r (es, a, k, room, few, w, l) e = rw e (es, a, sym k, w, l)
+staged_by elements heads t (Err x) r d e = rw (raised r e) (t, d)
 
 module _ (c : Settings) (s elements heads : List ℕ) where
   -- Nothing that comes before a document's 1 is wrong with the type.
-  pub staged_offered : (g : Result ℕ Stopped) → ((f : Fault) → g ≡ Err (Unread f) → ⊥) → Staged c s elements heads g → (is_offered c ≡ true) × (length s ≤ type_limit)
-  staged_offered (Err (Unread f)) other h = absurd (other f refl)
+  pub staged_offered : (g : Result ℕ Stopped) → ((x : Stopped) → g ≡ Err x → (f : Fault) → x ≡ Unread f → ⊥) → Staged c s elements heads g → (is_offered c ≡ true) × (length s ≤ type_limit)
+  staged_offered (Err (Unread f)) other h = absurd (other (Unread f) refl f refl)
   staged_offered (Err (Unclean f)) other h = (h.0, h.1)
   staged_offered (Err (Judged x)) other h = (h.0.offered, h.0.short)
   staged_offered (Ok n) other (es, a, k, w, l) = (a.legible.offered, a.legible.short)
@@ -80,3 +77,11 @@ module _ (c : Settings) (s elements heads : List ℕ) where
       legible_alone (Err (Unclean f)) e h = absurd (true≢false e)
       legible_alone (Err (Judged x)) e h = type_refused _ h.1
       legible_alone (Ok n) e h = (b, refl)
+
+-- What the type comes to alone is what is given, once the stage is looked at.
+module _ (c : Settings) (s d : List ℕ) (g : Result ℕ Stopped) (h : OrderedAs c s d g (alone_of g)) where
+  pub ordered_read : (n : ℕ) → g ≡ Ok n → OrderedAs c s d g (Ok n)
+  ordered_read n e = ((rw e at h).0, e)
+
+  pub ordered_refused : (x : Stopped) (r : Result ℕ Refused) → g ≡ Err x → r ≡ Err (refused_by x) → OrderedAs c s d g r
+  ordered_refused x r e q = rw (q, e) (rw e at h)

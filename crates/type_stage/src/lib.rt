@@ -77,10 +77,14 @@ impl From<Stopped> for Refused {
 pub fn too_long(g: Stage) -> Refused
     ensures { (c : rules.Settings) (s elements heads : List ℕ) → Staged c s elements heads g → PartRefused c s result }
 {
-    if let Err(Stopped::Unread(f)) = g {
-        return Refused::InType(TypeFault::Malformed(f));
-    }
-    Refused::InDocument(Refusal::TooLong.at(0))
+    let document = Refused::InDocument(Refusal::TooLong.at(0));
+    let Err(x) = g else {
+        return document;
+    };
+    let Stopped::Unread(f) = x else {
+        return document;
+    };
+    Refused::InType(TypeFault::Malformed(f))
 }
 
 // Whether the type's bytes are what it is refused for, or what comes before them.
