@@ -16,10 +16,11 @@ fn cell(table: &[u8; MODEL], i: usize) -> u8
     requires { i < MODEL }
     ensures { (result ≡ cell_of table.now i) × (result ≤ 1) }
 {
-    if table[i] == 1 { 1 } else { 0 }
+    u8::from(table[i] == 1)
 }
 
 // Eight numbers of a model's table as bits, the first the lowest.
+// Kept: eight terms and no loop (plainer): a sum over 0..8 would need a bound on each partial sum, and reads no shorter.
 fn packed(table: &[u8; MODEL], i: usize) -> u8
     requires { i + 8 ≤ MODEL }
     ensures { result ≡ packed_of table.now i }
@@ -40,14 +41,11 @@ fn put_row(rows: &mut [u8; ROWS], e: ElementNo, table: &[u8; MODEL], u: Place, r
     ensures { RowPut table.now e.0 u.0 raise rows.old rows.new }
 {
     let r = row_search::row(e, u);
-    let mut j = 0;
-    while j < LAST_BITS {
+    for j in 0..LAST_BITS {
         rows[r + j] = packed(table, u.0 * MODEL_ROW + 8 * j);
-        j += 1;
     }
     rows[r + LAST_BITS] = cell(table, u.0 * MODEL_ROW + GRPGTCNT);
-    let required = table[u.0 * MODEL_ROW + POSITIONS];
-    rows[r + REQUIRED] = required + raise;
+    rows[r + REQUIRED] = table[u.0 * MODEL_ROW + POSITIONS] + raise;
 }
 
 // The rows of the element e, whose model has `count` places. After a place the required place is kept `raise` higher.
@@ -55,11 +53,8 @@ pub fn put_rows(rows: &mut [u8; ROWS], e: ElementNo, table: &[u8; MODEL], count:
     requires { RowsDue table.now e.0 count rows.old × (raise ≤ RAISE) }
     ensures { RowsPut table.now e.0 raise rows.old rows.new (count + 1) }
 {
-    let start = Place(0);
-    put_row(rows, e, table, start, 0);
-    let mut u = 1;
-    while u <= count {
+    put_row(rows, e, table, Place(0), 0);
+    for u in 1..count + 1 {
         put_row(rows, e, table, Place(u), raise);
-        u += 1;
     }
 }

@@ -8,6 +8,3 @@ use Rattle.model_links.proofs.clear_row.Given as goal
 
 abbrev pub invariant-loop-c : goal.invariant-loop-c
 invariant-loop-c l = each (clear_cell l.u) l.table l.c MODEL_ROW ≡ clear_row l.initial.table l.u
-
-abbrev pub decreases-loop-c : goal.decreases-loop-c
-decreases-loop-c l = MODEL_ROW - l.c

@@ -6,6 +6,3 @@ use Rattle.model_links.proofs.link.Given as goal
 
 abbrev pub invariant-loop-u : goal.invariant-loop-u
 invariant-loop-u l = Links.link l.table l.u l.b l.c l.d ≡ Links.link l.initial.table l.a l.b l.c l.d
-
-abbrev pub decreases-loop-u : goal.decreases-loop-u
-decreases-loop-u l = l.b - l.u

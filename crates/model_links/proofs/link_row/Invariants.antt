@@ -6,6 +6,3 @@ use Rattle.model_links.proofs.link_row.Given as goal
 
 abbrev pub invariant-loop-p : goal.invariant-loop-p
 invariant-loop-p l = link_row l.table l.u l.p l.d ≡ link_row l.initial.table l.u l.c l.d
-
-abbrev pub decreases-loop-p : goal.decreases-loop-p
-decreases-loop-p l = l.d - l.p

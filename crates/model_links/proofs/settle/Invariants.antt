@@ -6,6 +6,3 @@ use Rattle.model_links.proofs.settle.Given as goal
 
 abbrev pub invariant-loop-u : goal.invariant-loop-u
 invariant-loop-u l = Links.settle l.table l.u l.mid l.required ≡ Links.settle l.initial.table l.lo l.mid l.required
-
-abbrev pub decreases-loop-u : goal.decreases-loop-u
-decreases-loop-u l = l.mid - l.u

@@ -7,6 +7,3 @@ use Rattle.model_links.proofs.unbegin.Given as goal
 
 abbrev pub invariant-loop-p : goal.invariant-loop-p
 invariant-loop-p l = Links.unbegin l.table l.p l.hi ≡ Links.unbegin l.initial.table l.mid l.hi
-
-abbrev pub decreases-loop-p : goal.decreases-loop-p
-decreases-loop-p l = l.hi - l.p

@@ -9,6 +9,3 @@ use Rattle.model_rows.proofs.put_row.Given as goal
 
 abbrev pub invariant-loop-j : goal.invariant-loop-j
 invariant-loop-j l = (l.j ≤ LAST_BITS) × ((e : ℕ) → e ≤ element_limit → l.r ≡ row_at e l.u.0 → BitsPut l.table e l.u.0 l.initial.rows l.rows l.j)
-
-abbrev pub decreases-loop-j : goal.decreases-loop-j
-decreases-loop-j l = LAST_BITS - l.j

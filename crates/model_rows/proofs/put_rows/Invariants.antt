@@ -10,6 +10,3 @@ use Rattle.model_rows.proofs.put_rows.Given as goal
 
 abbrev pub invariant-loop-u : goal.invariant-loop-u
 invariant-loop-u l = (1 ≤ l.u) × (l.u ≤ l.count + 1) × (length l.rows ≡ ROWS) × ((T : List ℕ) → RowsPut l.table l.e.0 l.raise T l.initial.rows 1 → RowsPut l.table l.e.0 l.raise T l.rows l.u)
-
-abbrev pub decreases-loop-u : goal.decreases-loop-u
-decreases-loop-u l = l.count + 1 - l.u
