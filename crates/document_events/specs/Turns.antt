@@ -1,5 +1,5 @@
 -- The loop over a document's tokens: what a turn leaves, and what the document reads as where the loop ends.
-use Rattle.std.specs.Prelude.{ℕ, zero, suc, ◌+◌, ◌-◌, ◌≤◌, ◌<◌, ◌≡◌, refl, Bool, true, List, ◌++◌, length}
+use Rattle.std.specs.Prelude.{ℕ, zero, suc, ◌+◌, ◌-◌, ◌≤◌, ◌<◌, ◌≡◌, refl, Bool, true, List, ◌++◌, length, Result, Ok, Err}
 use Rattle.std.proofs.Common.{sym, ◌∙◌, ap, subst, arith}
 use Rattle.rules.specs.Settings.{Settings}
 use Rattle.rules.specs.Bytes.{byte_at, MDC, TAGLVL, document_limit, element_limit}
@@ -17,7 +17,9 @@ use Rattle.rules.specs.Settling as rules
 use Rattle.rules.specs.Records.{Line, is_fresh, mark_behind, records_settled}
 use Rattle.rules.specs.Reader.{piece_under, document, event_numbers}
 use Rattle.numbers.specs.Stores.{written_none}
+use Rattle.text.specs.declared.Refusal.{Refusal}
 use Rattle.text.specs.declared.Fault.{Fault}
+use Rattle.text.specs.Refusal.{number_of, fault_at}
 use Rattle.layout.specs.declared.ElementNo.{ElementNo}
 use Rattle.layout.specs.Typed.{element_no}
 use Rattle.rules_laws.specs.Holds.{got_so}
@@ -41,8 +43,8 @@ use Rattle.list_table.specs.Lists.{Lists}
 use Rattle.type_tables.specs.Tables.{Tables, Entered}
 use Rattle.open_elements.specs.declared.OpenElements.{OpenElements}
 use Rattle.open_elements.specs.declared.Outcome.{Outcome}
-use Rattle.open_elements.specs.Stands.{Becomes, fresh, Ranged}
-use Rattle.open_elements.specs.Becomes.{StandsWith, was_refused, was_got}
+use Rattle.open_elements.specs.Stands.{fresh, Ranged}
+use Rattle.open_elements.specs.Becomes.{Got, StandsWith}
 use Rattle.open_elements.specs.Methods.{stands_fresh, ranged_fresh}
 use Rattle.inferring.specs.declared.Stop.{Stop}
 use Rattle.inferring.specs.Inferring.{Stops}
@@ -52,13 +54,11 @@ use Rattle.record_ends.specs.Ignoring.{shown_short, shown_whole, shown_tag}
 use Rattle.token_due.specs.Shown.{ends_are, starts_are, due_token}
 use Rattle.token_due.specs.Freed.{Has, has_behind, freed}
 use Rattle.token_due.specs.EndTags.{due_end_tag}
-use Rattle.settling.specs.Settled.{takes, takes_start, takes_run, Gives, Settles}
-use Rattle.closing.specs.Closed.{Tagged, Finished}
+use Rattle.settling.specs.Settled.{takes, takes_start, takes_run, Gives, RefusesToken, Settles}
+use Rattle.closing.specs.Closed.{TaggedGot, TaggedRefused, FinishedGot, FinishedRefused}
 use Rattle.pieces.specs.declared.Found.{Found}
 use Rattle.pieces.specs.declared.Found.TheVariants as found
-use Rattle.pieces.specs.Finds.{skips, separates, malformed, undeclared_start, undeclared_end, ToSettle, runs, starts, Finds, MarksAt, Onward}
-use Rattle.document_events.specs.declared.Counted.{Counted}
-use Rattle.document_events.specs.declared.Counted.TheVariants as counted
+use Rattle.pieces.specs.Finds.{skips, separates, malformed, undeclared_start, undeclared_end, Unread, Runs, ToSettle, runs, starts, Finds, MarksAt, Onward}
 use Rattle.document_events.specs.Loop.{EventsOf, Turned, Going}
 use Rattle.document_events.specs.Again.{stands_again}
 
@@ -85,54 +85,42 @@ latest_data : (c : Settings) (d : List ℕ) (at after : ℕ) → at < after → 
 latest_data c d at after h ev zero opens taken e = latest_run c d after at h ev
 latest_data c d at after h ev (suc k) opens taken e = absurd (omega arith)
 
-module _ (c : Settings) (s : List ℕ) (es : List Element) (d M begun : List ℕ) (at since mark : ℕ) (z : State) (h : at < length d) (reach : Reaches c s es d at (line_of since mark) z) (r : Outcome) (x after : ℕ) where
+module _ (c : Settings) (s : List ℕ) (es : List Element) (d M : List ℕ) (at since mark : ℕ) (z : State) (h : at < length d) (reach : Reaches c s es d at (line_of since mark) z) (x after : ℕ) where
   -- An end tag.
-  module _ (from : ℕ) (events : List Event) where
-    turned_end : Finds c s es d (line_of since mark) z.current at (found.End (element_no x) after) → Becomes at r.number (StandsWith es M begun r.open events) (end_element s es (decided s es) x at after z)
-        → Turned c s es d M begun at after mark from events r
-    turned_end (n, i) b =
-        let q = end_element s es (decided s es) x at after z in
-        let Came = StandsWith es M begun r.open events in
-        record {
-          goes = λ o. let (y, e, came) = was_got at Came q b o in (y, came, reaches_end_tag reach h n.there x n.number i e, latest_end_tag c s es d at (line_of since mark) z h x from n.there e);
-          refuses = λ k. refused_end_tag reach h n.there x n.number i (was_refused at Came q b k);
-        }
+  module _ (it : Finds c s es d (line_of since mark) z.current at (Ok (found.End (element_no x) after))) where
+    turned_end : {begun : List ℕ} {r : Outcome} {events : List Event} (from : ℕ) → Got (StandsWith es M begun r.open events) (end_element s es (decided s es) x at after z) → Turned c s es d M begun at after mark from events (Ok r)
+    turned_end from (y, e, came) =
+        let (n, i) = it in
+        (y, came, reaches_end_tag reach h n.there x n.number i e, latest_end_tag c s es d at (line_of since mark) z h x from n.there e)
 
-  -- A start tag or a run of data, for 0: the rules take the place of a run with each byte.
-  module _ (ev : List Event) (opens : Bool) (taken : ℕ) where
-    abbrev events : List Event
-    events = ev ++ written_of x opens taken at after
+    end_refused : {k : ℕ} → end_element s es (decided s es) x at after z ≡ refused k at → document c s es (decided s es) d ≡ refused k at
+    end_refused e = let (n, i) = it in refused_end_tag reach h n.there x n.number i e
 
-    abbrev Came : State → Type 0
-    Came = StandsWith es M begun r.open events
+  -- A run of data: the rules take its place with each byte.
+  module _ {given : Settings} (accepted : Accepts given s es) (nothing : x ≡ 0) (f : Runs c s es d (line_of since mark) z.current at after) where
+    all_run : take_run s es (decided s es) at (run_end d (at + 1) - at) z ≡ takes s es x at after z
+    all_run = ap (λ (k : ℕ). take_run s es (decided s es) at (k - at) z) (sym f.ends) ∙ sym (takes_run s es at after z x nothing)
 
-    turned_run : {given : Settings} → Accepts given s es → x ≡ 0 → is_run (piece_under c s es d at (line_of since mark) z.current) ≡ true
-        → (piece_under c s es d at (line_of since mark) z.current ≡ got blank → 1 ≤ fitting s es (decided s es) z.current pcdata) → after ≡ run_end d (at + 1) → at < after
-        → Becomes at r.number Came (take_run s es (decided s es) at (after - at) z) → Turned c s es d M begun at after mark at events r
-    turned_run accepted nothing run fits ends on b =
-        let q = take_run s es (decided s es) at (after - at) z in
-        let same : take_run s es (decided s es) at (run_end d (at + 1) - at) z ≡ q = ap (λ (k : ℕ). take_run s es (decided s es) at (k - at) z) (sym ends) in
-        record {
-          goes = λ o.
-              let (y, e, came) = was_got at Came q b o in
-              let (v, again, there) = reaches_run reach h run fits accepted (same ∙ e) in
-              let begins = (passes_begun s es (decided s es) (accepted_decided s es accepted) d there.passes).current in
-              let w = state v y.around y.events in
-              let there_on : Reaches c s es d after (line_of after mark) w = subst (λ (k : ℕ). Reaches c s es d k (line_of k mark) w) (sym ends) there in
-              (w, (stands_again came.0 again begins, came.1), there_on, subst (Latest c d after at) (sym came.1) (latest_data c d at after on ev x opens taken nothing));
-          refuses = λ k. refused_run reach h run fits (same ∙ was_refused at Came q b k);
-        }
+    turned_run : at < after → {begun : List ℕ} {r : Outcome} (ev : List Event) (opens : Bool) (taken : ℕ) → Got (StandsWith es M begun r.open (ev ++ written_of x opens taken at after)) (takes s es x at after z)
+        → Turned c s es d M begun at after mark at (ev ++ written_of x opens taken at after) (Ok r)
+    turned_run on ev opens taken (y, e, came) =
+        let (v, again, there) = reaches_run reach h f.run f.fits accepted (all_run ∙ e) in
+        let begins = (passes_begun s es (decided s es) (accepted_decided s es accepted) d there.passes).current in
+        let w = state v y.around y.events in
+        let there_on : Reaches c s es d after (line_of after mark) w = subst (λ (k : ℕ). Reaches c s es d k (line_of k mark) w) (sym f.ends) there in
+        (w, (stands_again came.0 again begins, came.1), there_on, subst (Latest c d after at) (sym came.1) (latest_data c d at after on ev x opens taken nothing))
 
-    turned_token : {given : Settings} → Accepts given s es → at < after → ToSettle c s es d (line_of since mark) z.current at x after → Becomes at r.number Came (takes s es x at after z) → Turned c s es d M begun at after mark at events r
-    turned_token accepted on (starts i n) b =
-        let q = takes s es x at after z in
-        let is = takes_start s es at after z x i in
-        record {
-          goes = λ o. let (y, e, came) = was_got at Came q b o in (y, came, reaches_start_tag reach h n.there x n.number i (sym is ∙ e), latest_start_tag c s es d at (line_of since mark) z h x at n.there (sym is ∙ e));
-          refuses = λ k. refused_start_tag reach h n.there x n.number i (sym is ∙ was_refused at Came q b k);
-        }
-    turned_token accepted on (runs nothing f) b =
-        turned_run accepted nothing f.run f.fits f.ends on (subst (λ (q : Reading State). Becomes at r.number Came q) (takes_run s es at after z x nothing) b)
+  -- A start tag or a run of data, for 0.
+  turned_token : {given : Settings} → Accepts given s es → at < after → ToSettle c s es d (line_of since mark) z.current at x after → {begun : List ℕ} {r : Outcome} (ev : List Event) (opens : Bool) (taken : ℕ)
+      → Got (StandsWith es M begun r.open (ev ++ written_of x opens taken at after)) (takes s es x at after z) → Turned c s es d M begun at after mark at (ev ++ written_of x opens taken at after) (Ok r)
+  turned_token accepted on (starts i n) ev opens taken (y, e, came) =
+      let is = sym (takes_start s es at after z x i) ∙ e in
+      (y, came, reaches_start_tag reach h n.there x n.number i is, latest_start_tag c s es d at (line_of since mark) z h x at n.there is)
+  turned_token accepted on (runs nothing f) ev opens taken b = turned_run accepted nothing f on ev opens taken b
+
+  token_refused : {given : Settings} → Accepts given s es → ToSettle c s es d (line_of since mark) z.current at x after → {k : ℕ} → takes s es x at after z ≡ refused k at → document c s es (decided s es) d ≡ refused k at
+  token_refused accepted (starts i n) e = refused_start_tag reach h n.there x n.number i (sym (takes_start s es at after z x i) ∙ e)
+  token_refused accepted (runs nothing f) e = refused_run reach h f.run f.fits (all_run accepted nothing f ∙ e)
 
 -- The element of a start tag is declared.
 settles_declared : (c : Settings) (s : List ℕ) (es : List Element) (d : List ℕ) (l : Line) (o : rules.Open) (at x after : ℕ) → ToSettle c s es d l o at x after → x ≤ length es
@@ -140,11 +128,11 @@ settles_declared c s es d l o at x after (runs z f) = omega arith
 settles_declared c s es d l o at x after (starts i n) = omega (arith, n.number, number_of_range s es d n.name n.size)
 
 -- What is refused whatever is open.
-refused_unread : (c : Settings) (s : List ℕ) (es : List Element) (d : List ℕ) (at : ℕ) (l : Line) (z : State) → at < length d → Reaches c s es d at l z → (f : Fault) → Finds c s es d l z.current at (found.Refused f)
-    → document c s es (decided s es) d ≡ refused f.number f.at
-refused_unread c s es d at l z h reach f (malformed e) = refused_piece reach h e
-refused_unread c s es d at l z h reach f (undeclared_start n e k) = rw (e, k) (refused_undeclared_start reach h n.there n.number)
-refused_unread c s es d at l z h reach f (undeclared_end n e k) = rw (e, k) (refused_undeclared_end reach h n.there n.number)
+refused_unread : (c : Settings) (s : List ℕ) (es : List Element) (d : List ℕ) (at : ℕ) (l : Line) (z : State) → at < length d → Reaches c s es d at l z → (number position : ℕ) → Unread c s es d l z.current at number position
+    → document c s es (decided s es) d ≡ refused number position
+refused_unread c s es d at l z h reach n k (malformed e) = refused_piece reach h e
+refused_unread c s es d at l z h reach n k (undeclared_start m e i) = rw (e, i) (refused_undeclared_start reach h m.there m.number)
+refused_unread c s es d at l z h reach n k (undeclared_end m e i) = rw (e, i) (refused_undeclared_end reach h m.there m.number)
 
 -- The loop
 
@@ -175,52 +163,45 @@ module _ {c : Settings} {s elements index rows places facts M lists d begun numb
   pub finish_asked : length d ≤ document_limit → Ranged o × (at < 4294967296) × (n + MOST_EVENTS < 4294967296)
   finish_asked small = (g.ranged, omega (arith, g.inside), omega (arith, g.inside, g.few))
 
-  module _ {r : Outcome} {numbers' bytes' : List ℕ} (t : Finished facts at n o numbers_now bytes_now r numbers' bytes') where
-    whole : at ≡ length d
-    whole = omega (arith, g.inside)
+  whole : at ≡ length d
+  whole = omega (arith, g.inside)
 
-    -- What the document's end has become.
-    ends : (es : List Element) (i : Indexed s es elements index) (u : Tables s es rows places facts M) (l : Lists c.name_length s es lists)
-        → Becomes at r.number (λ (ev : List Event). ev ≡ (g.any es i u l).state.events ++ t.brings.events) (end_document s es (decided s es) (length d) (g.any es i u l).state)
-    ends es i u l =
-        let came = g.any es i u l in
-        let z = came.state in
-        subst (λ (k : ℕ). Becomes at r.number (λ (ev : List Event). ev ≡ z.events ++ t.brings.events) (end_document s es (decided s es) k z)) whole
-        (t.ends s es u.raised u.facts_say M begun z came.stands)
+  pub end_refuses : {r : Refusal} {numbers' bytes' : List ℕ} → FinishedRefused facts at n o numbers_now bytes_now r numbers' bytes' → {f : Fault} → f ≡ fault_at r at
+      → (es : List Element) → Indexed s es elements index → Tables s es rows places facts M → Lists c.name_length s es lists → EventsOf c s es d numbers numbers' bytes bytes' (Err f)
+  end_refuses {r} t q es i u l =
+      let came = g.any es i u l in
+      rw q (reaches_end came.reaches whole (subst (λ (k : ℕ). end_document s es (decided s es) k came.state ≡ refused (number_of r) at) whole (t.ends s es u.raised u.facts_say M begun came.state came.stands)))
 
-    pub end_refuses : (r.number ≡ 0 → ⊥) → {answer : Counted} → answer ≡ counted.Refused (record { number = r.number; at = at }) → (es : List Element) → Indexed s es elements index → Tables s es rows places facts M → Lists c.name_length s es lists → EventsOf c s es d numbers numbers' bytes bytes' answer
-    end_refuses some q es i u l =
-        let z = (g.any es i u l).state in
-        rw q (reaches_end (g.any es i u l).reaches whole (was_refused at (λ (ev : List Event). ev ≡ z.events ++ t.brings.events) (end_document s es (decided s es) (length d) z) (ends es i u l) (omega arith)))
-
-    pub end_counts : length d ≤ document_limit → r.number ≡ 0 → (es : List Element) → Indexed s es elements index → Tables s es rows places facts M → Lists c.name_length s es lists → EventsOf c s es d numbers numbers' bytes bytes' (counted.Events r.events)
-    end_counts small nothing es i u l =
-        let came = g.any es i u l in
-        let z = came.state in
-        let b = t.brings in
-        let With = with_attributes c.name_length s es d in
-        let before = due c d z.events in
-        let (ev, e, are) = was_got at (λ (ev : List Event). ev ≡ z.events ++ b.events) (end_document s es (decided s es) (length d) z) (ends es i u l) nothing in
-        let all : With (records_settled c d ev) ≡ With before ++ b.events =
-        ap (λ (v : List Event). With (records_settled c d v)) are ∙ ap With (end_settles came.reaches b.events (e ∙ ap got are)) ∙ with_append c.name_length s es d before b.events ∙ ap (λ (v : List Event). With before ++ v) (b.plain.plain c.name_length s es d) in
-        let has = has_behind came.has b.puts b.counted in (
-          With before ++ b.events,
-          reaches_end came.reaches whole e ∙ ap got all,
-          has.counted,
-          has.holds.numbers_hold,
-          has.holds.bytes_hold,
-          omega (arith, b.counted, t.few, g.few, g.inside),
-        )
+  pub end_counts : {r : Outcome} {numbers' bytes' : List ℕ} → FinishedGot facts at n o numbers_now bytes_now r numbers' bytes' → length d ≤ document_limit
+      → (es : List Element) → Indexed s es elements index → Tables s es rows places facts M → Lists c.name_length s es lists → EventsOf c s es d numbers numbers' bytes bytes' (Ok r.events)
+  end_counts t small es i u l =
+      let came = g.any es i u l in
+      let z = came.state in
+      let b = t.brings in
+      let With = with_attributes c.name_length s es d in
+      let before = due c d z.events in
+      let ends : end_document s es (decided s es) (length d) z ≡ got (z.events ++ b.events) =
+      subst (λ (k : ℕ). end_document s es (decided s es) k z ≡ got (z.events ++ b.events)) whole (t.ends s es u.raised u.facts_say M begun z came.stands) in
+      let all : With (records_settled c d (z.events ++ b.events)) ≡ With before ++ b.events =
+      ap With (end_settles came.reaches b.events ends) ∙ with_append c.name_length s es d before b.events ∙ ap (λ (v : List Event). With before ++ v) (b.plain.plain c.name_length s es d) in
+      let has = has_behind came.has b.puts b.counted in (
+        With before ++ b.events,
+        reaches_end came.reaches whole ends ∙ ap got all,
+        has.counted,
+        has.holds.numbers_hold,
+        has.holds.bytes_hold,
+        omega (arith, b.counted, t.few, g.few, g.inside),
+      )
 
 -- A turn of the loop: the document has something at `at`, and this is what piece_at ensures of it, the attributes of a start tag being marked.
-pub record Turn (c : Settings) (s elements index rows places facts M lists d begun numbers numbers_now bytes bytes_now : List ℕ) (n at since mark from : ℕ) (o : OpenElements) (p : Found) (marks : List ℕ) : Type 0 where
+pub record Turn (c : Settings) (s elements index rows places facts M lists d begun numbers numbers_now bytes bytes_now : List ℕ) (n at since mark from : ℕ) (o : OpenElements) (p : Result Found Fault) (marks : List ℕ) : Type 0 where
   pub going : Going c s elements index rows places facts M lists d begun numbers numbers_now bytes bytes_now n at since mark from o
   pub inside : at < length d
   pub onward : Onward (length d) at p
   pub said : (es : List Element) → Indexed s es elements index → Tables s es rows places facts M → Lists c.name_length s es lists → (v : rules.Open) → Entered es M begun o.count o.element.0 o.place.0 v → (since ≡ 0 → is_fresh v ≡ true)
       → Finds c s es d (line_of since mark) v at p × MarksAt c s es d at p marks
 
-module _ {c : Settings} {s elements index rows places facts M lists d begun numbers numbers_now bytes bytes_now : List ℕ} {n at since mark from : ℕ} {o : OpenElements} {p : Found} {marks : List ℕ}
+module _ {c : Settings} {s elements index rows places facts M lists d begun numbers numbers_now bytes bytes_now : List ℕ} {n at since mark from : ℕ} {o : OpenElements} {p : Result Found Fault} {marks : List ℕ}
     (turn : Turn c s elements index rows places facts M lists d begun numbers numbers_now bytes bytes_now n at since mark from o p marks) where
   says : (es : List Element) (i : Indexed s es elements index) (t : Tables s es rows places facts M) (l : Lists c.name_length s es lists) → Finds c s es d (line_of since mark) (turn.going.any es i t l).state.current at p × MarksAt c s es d at p marks
   says es i t l =
@@ -230,23 +211,23 @@ module _ {c : Settings} {s elements index rows places facts M lists d begun numb
   finds : (es : List Element) (i : Indexed s es elements index) (t : Tables s es rows places facts M) (l : Lists c.name_length s es lists) → Finds c s es d (line_of since mark) (turn.going.any es i t l).state.current at p
   finds es i t l = (says es i t l).0
 
-  pub piece_refuses : {f : Fault} → p ≡ found.Refused f → (es : List Element) → Indexed s es elements index → Tables s es rows places facts M → Lists c.name_length s es lists → document c s es (decided s es) d ≡ refused f.number f.at
+  pub piece_refuses : {f : Fault} → p ≡ Err f → (es : List Element) → Indexed s es elements index → Tables s es rows places facts M → Lists c.name_length s es lists → document c s es (decided s es) d ≡ refused f.number f.at
   piece_refuses {f} q es i t l =
       let came = turn.going.any es i t l in
-      refused_unread c s es d at (line_of since mark) came.state turn.inside came.reaches f (rw q at (finds es i t l))
+      refused_unread c s es d at (line_of since mark) came.state turn.inside came.reaches f.number f.at (rw q at (finds es i t l))
 
   -- Each moves on within the document.
-  pub token_range : {x : ElementNo} {after : ℕ} → p ≡ found.Token x after → (at < after) × (after ≤ length d)
+  pub token_range : {x : ElementNo} {after : ℕ} → p ≡ Ok (found.Token x after) → (at < after) × (after ≤ length d)
   token_range {x} {after} q = let (f, k, m) : (x.0 ≤ element_limit) × (at < after) × (after ≤ length d) = rw q at turn.onward in (k, m)
 
-  pub end_range : {x : ElementNo} {after : ℕ} → p ≡ found.End x after → (at < after) × (after ≤ length d)
+  pub end_range : {x : ElementNo} {after : ℕ} → p ≡ Ok (found.End x after) → (at < after) × (after ≤ length d)
   end_range {x} {after} q = let (f, k, m) : (x.0 ≤ element_limit) × (at < after) × (after ≤ length d) = rw q at turn.onward in (k, m)
 
-  pub passed_range : {after : ℕ} → p ≡ found.Passed after → (at < after) × (after ≤ length d)
+  pub passed_range : {after : ℕ} → p ≡ Ok (found.Passed after) → (at < after) × (after ≤ length d)
   passed_range q = rw q at turn.onward
 
   -- What is ignored leaves the open elements as they were.
-  pub going_passed : {after : ℕ} → p ≡ found.Passed after → {marked : ℕ} → marked ≡ mark_behind d at mark → Going c s elements index rows places facts M lists d begun numbers numbers_now bytes bytes_now n after since marked from o
+  pub going_passed : {after : ℕ} → p ≡ Ok (found.Passed after) → {marked : ℕ} → marked ≡ mark_behind d at mark → Going c s elements index rows places facts M lists d begun numbers numbers_now bytes bytes_now n after since marked from o
   going_passed {after} q {marked} e =
       let (k, m) = passed_range q in
       record {
@@ -268,7 +249,7 @@ module _ {c : Settings} {s elements index rows places facts M lists d begun numb
             };
       }
     where
-      by_kind : (es : List Element) (z : State) → Reaches c s es d at (line_of since mark) z → Finds c s es d (line_of since mark) z.current at (found.Passed after) → Reaches c s es d after (line_of since (mark_behind d at mark)) z
+      by_kind : (es : List Element) (z : State) → Reaches c s es d at (line_of since mark) z → Finds c s es d (line_of since mark) z.current at (Ok (found.Passed after)) → Reaches c s es d after (line_of since (mark_behind d at mark)) z
       by_kind es z reach (skips e) = reaches_skipped reach turn.inside e
       by_kind es z reach (separates e n a) = rw a (reaches_blank reach turn.inside e n)
 
@@ -276,16 +257,15 @@ module _ {c : Settings} {s elements index rows places facts M lists d begun numb
     asked : (x.0 ≤ element_limit) × (at < after) × (after ≤ length d) → (x.0 ≤ element_limit) × (at ≤ after) × (after < 4294967296) × (n + MOST_EVENTS < 4294967296)
     asked (f, k, m) = (f, omega arith, omega arith, omega (arith, turn.going.few))
 
-    pub token_asked : p ≡ found.Token x after → Ranged o × (x.0 ≤ element_limit) × (at ≤ after) × (after < 4294967296) × (n + MOST_EVENTS < 4294967296)
+    pub token_asked : p ≡ Ok (found.Token x after) → Ranged o × (x.0 ≤ element_limit) × (at ≤ after) × (after < 4294967296) × (n + MOST_EVENTS < 4294967296)
     token_asked q = let (a, b, c, e) = asked (rw q at turn.onward) in (turn.going.ranged, a, b, c, e)
 
-    pub end_asked : p ≡ found.End x after → Ranged o × (at ≤ after) × (after < 4294967296) × (x.0 ≤ element_limit) × (n + MOST_EVENTS < 4294967296)
+    pub end_asked : p ≡ Ok (found.End x after) → Ranged o × (at ≤ after) × (after < 4294967296) × (x.0 ≤ element_limit) × (n + MOST_EVENTS < 4294967296)
     end_asked q = let (a, b, c, e) = asked (rw q at turn.onward) in (turn.going.ranged, b, c, a, e)
 
-  module _ {x : ElementNo} {after : ℕ} {r : Outcome} {numbers' bytes' : List ℕ} where
+  module _ {x : ElementNo} {after : ℕ} where
     -- A start tag or a run of data, shown to `shown`.
-    module _ {shown m : ℕ} {ends : List Event} {begun' numbers₂ bytes₂ : List ℕ} (q : p ≡ found.Token x after) (to : shown ≡ shown_end c.edition d after)
-        (t : Settles rows places facts M lists marks x.0 at shown o begun ends m numbers₂ bytes₂ r begun' numbers' bytes') where
+    module _ {shown : ℕ} (q : p ≡ Ok (found.Token x after)) (to : shown ≡ shown_end c.edition d after) where
       to_settle : (es : List Element) (i : Indexed s es elements index) (u : Tables s es rows places facts M) (l : Lists c.name_length s es lists) → ToSettle c s es d (line_of since mark) (turn.going.any es i u l).state.current at x.0 after
       to_settle es i u l = rw q at (finds es i u l)
 
@@ -297,41 +277,48 @@ module _ {c : Settings} {s elements index rows places facts M lists d begun numb
       tag_shown es v (runs z f) some = absurd (omega arith)
       tag_shown es v (starts k f) some = sym (to ∙ shown_tag c.edition d after (omega (arith, token_range q)) (start_closes c s es d at (line_of since mark) v f.there turn.inside))
 
-      settled : (es : List Element) (i : Indexed s es elements index) (u : Tables s es rows places facts M) (l : Lists c.name_length s es lists)
-          → Turned c s es d M begun' at after mark at ((((turn.going.any es i u l).state.events ++ ends) ++ t.starts) ++ written_of x.0 t.opens t.taken at after) r
-      settled es i u l =
+      pub token_refuses : {k : ℕ} → RefusesToken rows places facts M x.0 at shown o begun k → {f : Fault} → f ≡ record { number = k; at = at }
+          → (es : List Element) → Indexed s es elements index → Tables s es rows places facts M → Lists c.name_length s es lists → document c s es (decided s es) d ≡ refused f.number f.at
+      token_refuses refuses e es i u l =
           let came = turn.going.any es i u l in
           let z = came.state in
           let it = to_settle es i u l in
-          turned_token c s es d M begun' at since mark z turn.inside came.reaches r x.0 after ((z.events ++ ends) ++ t.starts) t.opens t.taken u.accepted (token_range q).0 it (t.settles s es u z came.stands (declared es i u l) after (tag_shown es z.current it))
+          rw e (token_refused c s es d M at since mark z turn.inside came.reaches x.0 after u.accepted it (refuses s es u z came.stands (declared es i u l) after (tag_shown es z.current it)))
 
-      -- The tag's attributes are marked.
-      tag_gives : (es : List Element) → Indexed s es elements index → Tables s es rows places facts M → Lists c.name_length s es lists → (v : rules.Open) → ToSettle c s es d (line_of since mark) v at x.0 after → 1 ≤ x.0 → Gives c.name_length s es d x.0 at marks
-      tag_gives es i u l v (runs z f) some = absurd (omega arith)
-      tag_gives es i u l v (starts k f) some =
-          let there = start_text c s es d at (line_of since mark) v f.there in
-          let marked : MarksAt c s es d at (found.Token x after) marks = rw q at (says es i u l).1 in
-          record { tag = _; there = piece_start_tag c.name_length d at there; marked = marked some _ there }
+      -- It is not refused.
+      module _ {m : ℕ} {ends : List Event} {r : Outcome} {begun' numbers₂ bytes₂ numbers' bytes' : List ℕ} (t : Settles rows places facts M lists marks x.0 at shown o begun ends m numbers₂ bytes₂ r begun' numbers' bytes') where
+        settled : (es : List Element) (i : Indexed s es elements index) (u : Tables s es rows places facts M) (l : Lists c.name_length s es lists)
+            → Turned c s es d M begun' at after mark at ((((turn.going.any es i u l).state.events ++ ends) ++ t.starts) ++ written_of x.0 t.opens t.taken at after) (Ok r)
+        settled es i u l =
+            let came = turn.going.any es i u l in
+            let z = came.state in
+            let it = to_settle es i u l in
+            turned_token c s es d M at since mark z turn.inside came.reaches x.0 after u.accepted (token_range q).0 it ((z.events ++ ends) ++ t.starts) t.opens t.taken (t.settles s es u z came.stands (declared es i u l) after (tag_shown es z.current it))
 
-      added : r.number ≡ 0 → (es : List Element) → Indexed s es elements index → Tables s es rows places facts M → Lists c.name_length s es lists → t.written ≡ with_attributes c.name_length s es d (t.starts ++ shown_of x.0 t.opens t.taken at shown)
-      added fine es i u l =
-          let came = turn.going.any es i u l in
-          t.adds fine s es u came.state came.stands (declared es i u l) c.name_length d l (tag_gives es i u l came.state.current (to_settle es i u l))
+        -- The tag's attributes are marked.
+        tag_gives : (es : List Element) → Indexed s es elements index → Tables s es rows places facts M → Lists c.name_length s es lists → (v : rules.Open) → ToSettle c s es d (line_of since mark) v at x.0 after → 1 ≤ x.0 → Gives c.name_length s es d x.0 at marks
+        tag_gives es i u l v (runs z f) some = absurd (omega arith)
+        tag_gives es i u l v (starts k f) some =
+            let there = start_text c s es d at (line_of since mark) v f.there in
+            let marked : MarksAt c s es d at (Ok (found.Token x after)) marks = rw q at (says es i u l).1 in
+            record { tag = _; there = piece_start_tag c.name_length d at there; marked = marked some _ there }
 
-      pub token_refuses : (r.number ≡ 0 → ⊥) → {answer : Counted} → answer ≡ counted.Refused (record { number = r.number; at = at }) → (es : List Element) → Indexed s es elements index → Tables s es rows places facts M → Lists c.name_length s es lists → EventsOf c s es d numbers numbers' bytes bytes' answer
-      token_refuses z e es i u l = rw e ((settled es i u l).refuses (omega arith))
+        added : (es : List Element) → Indexed s es elements index → Tables s es rows places facts M → Lists c.name_length s es lists → t.written ≡ with_attributes c.name_length s es d (t.starts ++ shown_of x.0 t.opens t.taken at shown)
+        added es i u l =
+            let came = turn.going.any es i u l in
+            t.adds s es u came.state came.stands (declared es i u l) c.name_length d l (tag_gives es i u l came.state.current (to_settle es i u l))
 
     -- Its ends were inferred first, and a run that was held was freed.
-    module _ {shown m : ℕ} {begun' numbers₁ bytes₁ numbers₂ bytes₂ : List ℕ} {f : Stop} (q : p ≡ found.Token x after) (to : shown ≡ shown_end c.edition d after)
+    module _ {shown m : ℕ} {r : Outcome} {begun' numbers₁ bytes₁ numbers₂ bytes₂ numbers' bytes' : List ℕ} {f : Stop} (q : p ≡ Ok (found.Token x after)) (to : shown ≡ shown_end c.edition d after)
         (stops : Stops rows places facts M begun x.0 at n o numbers_now bytes_now f numbers₁ bytes₁) (frees : Frees (is_held c.edition d since) from since n f.events numbers₁ bytes₁ m numbers₂ bytes₂)
         (t : Settles rows places facts M lists marks x.0 at shown o begun stops.turns.events m numbers₂ bytes₂ r begun' numbers' bytes') where
       abbrev ends_first : List Event
       ends_first = stops.turns.events
 
-      token_due : r.number ≡ 0 → (es : List Element) (i : Indexed s es elements index) (u : Tables s es rows places facts M) (l : Lists c.name_length s es lists)
+      token_due : (es : List Element) (i : Indexed s es elements index) (u : Tables s es rows places facts M) (l : Lists c.name_length s es lists)
           → (y : State) → y.events ≡ (((turn.going.any es i u l).state.events ++ ends_first) ++ t.starts) ++ written_of x.0 t.opens t.taken at after
           → Has numbers bytes r.events numbers' bytes' (with_attributes c.name_length s es d (due c d y.events))
-      token_due fine es i u l y is =
+      token_due es i u l y is =
           let came = turn.going.any es i u l in
           let With = with_attributes c.name_length s es d in
           let ev = came.state.events ++ ends_first in
@@ -340,12 +327,12 @@ module _ {c : Settings} {s elements index rows places facts M lists d begun numb
           (λ h e less before b. record { counted = (frees.puts h e).counted less before b.counted; holds = (frees.puts h e).whole less numbers bytes before b.counted b.holds }) frees.stays in
           let all : With (due c d y.events) ≡ With (records_settled c d ev) ++ t.written =
           ap (λ (v : List Event). With (due c d v)) is
-          ∙ ap With (due_token c d ev (starts_are t.started) at after shown (token_range q).0 (λ h. to ∙ shown_short c.edition d after h) (λ h. to ∙ shown_whole c.edition d after h) x.0 t.opens t.taken (tag_shown q to t es came.state.current (to_settle q to t es i u l)))
-          ∙ with_append c.name_length s es d (records_settled c d ev) own ∙ ap (λ (v : List Event). With (records_settled c d ev) ++ v) (sym (added q to t fine es i u l)) in
+          ∙ ap With (due_token c d ev (starts_are t.started) at after shown (token_range q).0 (λ h. to ∙ shown_short c.edition d after h) (λ h. to ∙ shown_whole c.edition d after h) x.0 t.opens t.taken (tag_shown q to es came.state.current (to_settle q to es i u l)))
+          ∙ with_append c.name_length s es d (records_settled c d ev) own ∙ ap (λ (v : List Event). With (records_settled c d ev) ++ v) (sym (added q to t es i u l)) in
           subst (Has numbers bytes r.events numbers' bytes') (sym all) (has_behind first t.puts t.counted)
 
-      pub going_token : r.number ≡ 0 → Going c s elements index rows places facts M lists d begun' numbers numbers' bytes bytes' r.events after after mark at r.open
-      going_token fine =
+      pub going_token : Going c s elements index rows places facts M lists d begun' numbers numbers' bytes bytes' r.events after after mark at r.open
+      going_token =
           record {
             inside = (token_range q).1;
             since_inside = omega arith;
@@ -355,50 +342,53 @@ module _ {c : Settings} {s elements index rows places facts M lists d begun numb
             numbers_same = t.puts.numbers_kept ∙ frees.numbers_kept ∙ stops.turns.puts.numbers_kept ∙ turn.going.numbers_same;
             bytes_same = t.puts.bytes_kept ∙ frees.bytes_kept ∙ stops.turns.puts.bytes_kept ∙ turn.going.bytes_same;
             any = λ es i u l.
-                let (y, there, reach, last) = (settled q to t es i u l).goes fine in
-                record { state = y; reaches = reach; latest = last; stands = there.0; has = token_due fine es i u l y there.1 };
+                let (y, there, reach, last) = settled q to t es i u l in
+                record { state = y; reaches = reach; latest = last; stands = there.0; has = token_due es i u l y there.1 };
           }
 
     -- An end tag.
-    module _ (q : p ≡ found.End x after) (t : Tagged facts x.0 at after n o numbers_now bytes_now r numbers' bytes') where
-      closes : (es : List Element) (i : Indexed s es elements index) (u : Tables s es rows places facts M) (l : Lists c.name_length s es lists)
-          → Becomes at r.number (StandsWith es M begun r.open ((turn.going.any es i u l).state.events ++ t.brings.events)) (end_element s es (decided s es) x.0 at after (turn.going.any es i u l).state)
-      closes es i u l = let came = turn.going.any es i u l in t.closes s es u.raised u.facts_say M begun came.state came.stands
-
-      ended : (es : List Element) (i : Indexed s es elements index) (u : Tables s es rows places facts M) (l : Lists c.name_length s es lists) → Turned c s es d M begun at after mark from ((turn.going.any es i u l).state.events ++ t.brings.events) r
-      ended es i u l =
+    module _ (q : p ≡ Ok (found.End x after)) where
+      pub end_tag_refuses : {r : Refusal} {numbers' bytes' : List ℕ} → TaggedRefused facts x.0 at after n o numbers_now bytes_now r numbers' bytes' → {f : Fault} → f ≡ fault_at r at
+          → (es : List Element) → Indexed s es elements index → Tables s es rows places facts M → Lists c.name_length s es lists → document c s es (decided s es) d ≡ refused f.number f.at
+      end_tag_refuses t e es i u l =
           let came = turn.going.any es i u l in
-          let z = came.state in
-          turned_end c s es d M begun at since mark z turn.inside came.reaches r x.0 after from (z.events ++ t.brings.events) (rw q at (finds es i u l)) (closes es i u l)
+          rw e (end_refused c s es d M at since mark came.state turn.inside came.reaches x.0 after (rw q at (finds es i u l)) (t.closes s es u.raised u.facts_say M begun came.state came.stands))
 
-      -- What was due stands, and its ends behind.
-      end_due : r.number ≡ 0 → (es : List Element) (i : Indexed s es elements index) (u : Tables s es rows places facts M) (l : Lists c.name_length s es lists)
-          → (y : State) → y.events ≡ (turn.going.any es i u l).state.events ++ t.brings.events → Has numbers bytes r.events numbers' bytes' (with_attributes c.name_length s es d (due c d y.events))
-      end_due fine es i u l y is =
-          let came = turn.going.any es i u l in
-          let z = came.state in
-          let With = with_attributes c.name_length s es d in
-          let b = t.brings in
-          let (w, e, there) = was_got at (StandsWith es M begun r.open (z.events ++ b.events)) (end_element s es (decided s es) x.0 at after z) (closes es i u l) fine in
-          let all : With (due c d y.events) ≡ With (due c d z.events) ++ b.events =
-          ap (λ (v : List Event). With (due c d v)) (is ∙ sym there.1) ∙ ap With (due_end_tag s es (decided s es) c d x.0 at after z w b.events e there.1) ∙ with_append c.name_length s es d (due c d z.events) b.events
-          ∙ ap (λ (v : List Event). With (due c d z.events) ++ v) (b.plain.plain c.name_length s es d) in
-          subst (Has numbers bytes r.events numbers' bytes') (sym all) (has_behind came.has b.puts b.counted)
+      module _ {r : Outcome} {numbers' bytes' : List ℕ} (t : TaggedGot facts x.0 at after n o numbers_now bytes_now r numbers' bytes') where
+        closes : (es : List Element) (i : Indexed s es elements index) (u : Tables s es rows places facts M) (l : Lists c.name_length s es lists)
+            → Got (StandsWith es M begun r.open ((turn.going.any es i u l).state.events ++ t.brings.events)) (end_element s es (decided s es) x.0 at after (turn.going.any es i u l).state)
+        closes es i u l = let came = turn.going.any es i u l in t.closes s es u.raised u.facts_say M begun came.state came.stands
 
-      pub going_end : r.number ≡ 0 → Going c s elements index rows places facts M lists d begun numbers numbers' bytes bytes' r.events after after mark from r.open
-      going_end fine =
-          record {
-            inside = (end_range q).1;
-            since_inside = omega arith;
-            from_inside = omega (arith, end_range q, turn.going.from_inside, turn.going.since_inside);
-            few = omega (arith, turn.going.few, end_range q, t.brings.counted, t.few);
-            ranged = t.brings.ranged;
-            numbers_same = t.brings.puts.numbers_kept ∙ turn.going.numbers_same;
-            bytes_same = t.brings.puts.bytes_kept ∙ turn.going.bytes_same;
-            any = λ es i u l.
-                let (y, there, reach, last) = (ended es i u l).goes fine in
-                record { state = y; reaches = reach; latest = last; stands = there.0; has = end_due fine es i u l y there.1 };
-          }
+        ended : (es : List Element) (i : Indexed s es elements index) (u : Tables s es rows places facts M) (l : Lists c.name_length s es lists) → Turned c s es d M begun at after mark from ((turn.going.any es i u l).state.events ++ t.brings.events) (Ok r)
+        ended es i u l =
+            let came = turn.going.any es i u l in
+            turned_end c s es d M at since mark came.state turn.inside came.reaches x.0 after (rw q at (finds es i u l)) from (closes es i u l)
 
-      pub end_tag_refuses : (r.number ≡ 0 → ⊥) → {answer : Counted} → answer ≡ counted.Refused (record { number = r.number; at = at }) → (es : List Element) → Indexed s es elements index → Tables s es rows places facts M → Lists c.name_length s es lists → EventsOf c s es d numbers numbers' bytes bytes' answer
-      end_tag_refuses z e es i u l = rw e ((ended es i u l).refuses (omega arith))
+        -- What was due stands, and its ends behind.
+        end_due : (es : List Element) (i : Indexed s es elements index) (u : Tables s es rows places facts M) (l : Lists c.name_length s es lists)
+            → (y : State) → y.events ≡ (turn.going.any es i u l).state.events ++ t.brings.events → Has numbers bytes r.events numbers' bytes' (with_attributes c.name_length s es d (due c d y.events))
+        end_due es i u l y is =
+            let came = turn.going.any es i u l in
+            let z = came.state in
+            let With = with_attributes c.name_length s es d in
+            let b = t.brings in
+            let (w, e, there) = closes es i u l in
+            let all : With (due c d y.events) ≡ With (due c d z.events) ++ b.events =
+            ap (λ (v : List Event). With (due c d v)) (is ∙ sym there.1) ∙ ap With (due_end_tag s es (decided s es) c d x.0 at after z w b.events e there.1) ∙ with_append c.name_length s es d (due c d z.events) b.events
+            ∙ ap (λ (v : List Event). With (due c d z.events) ++ v) (b.plain.plain c.name_length s es d) in
+            subst (Has numbers bytes r.events numbers' bytes') (sym all) (has_behind came.has b.puts b.counted)
+
+        pub going_end : Going c s elements index rows places facts M lists d begun numbers numbers' bytes bytes' r.events after after mark from r.open
+        going_end =
+            record {
+              inside = (end_range q).1;
+              since_inside = omega arith;
+              from_inside = omega (arith, end_range q, turn.going.from_inside, turn.going.since_inside);
+              few = omega (arith, turn.going.few, end_range q, t.brings.counted, t.few);
+              ranged = t.brings.ranged;
+              numbers_same = t.brings.puts.numbers_kept ∙ turn.going.numbers_same;
+              bytes_same = t.brings.puts.bytes_kept ∙ turn.going.bytes_same;
+              any = λ es i u l.
+                  let (y, there, reach, last) = ended es i u l in
+                  record { state = y; reaches = reach; latest = last; stands = there.0; has = end_due es i u l y there.1 };
+            }

@@ -170,7 +170,7 @@ module _ {rows places facts M begun : List ℕ} {x at n : ℕ} {o₀ : OpenEleme
       placed_so some = reaches_by f.found refl (λ e. some (none_placed e))
 
   -- It is refused there.
-  pub refuses_placed : {lists : List ℕ} {starts k m₀ m m₁ : ℕ} {o : OpenElements} {numbers_from bytes_from begun₁ numbers₁ bytes₁ numbers₂ bytes₂ : List ℕ} → starts ≡ starts_of f.found → f.open.count + starts ≤ TAGLVL
+  pub refuses_placed : {lists : List ℕ} {starts k m₀ m : ℕ} {o : OpenElements} {numbers_from bytes_from begun₁ numbers₁ bytes₁ numbers₂ bytes₂ : List ℕ} → starts ≡ starts_of f.found → f.open.count + starts ≤ TAGLVL
       → Along rows places facts M lists at m₀ starts k f.open begun numbers_from bytes_from m o begun₁ numbers₁ bytes₁ → starts ≤ k
       → {r : Refusal} {begun' numbers' bytes' : List ℕ} → PlacedRefused rows places facts M begun₁ f.found x at shown o numbers₂ bytes₂ r begun' numbers' bytes' → RefusesToken rows places facts M x at shown o₀ begun (number_of r)
   refuses_placed counted few a all {r} placed s es tables z stands most after ends = by_way f.found refl
