@@ -1,5 +1,5 @@
 -- What stands at a position: what the code finds there, from the token, and where reading goes on.
-use Rattle.std.specs.Prelude.{ℕ, zero, suc, ◌+◌, ◌*◌, ◌-◌, ◌≤◌, ◌<◌, ◌≡◌, refl, Bool, true, false, List, [], ◌∷◌, length, eqb, leb}
+use Rattle.std.specs.Prelude.{ℕ, Result, Ok, Err, zero, suc, ◌+◌, ◌*◌, ◌-◌, ◌≤◌, ◌<◌, ◌≡◌, refl, Bool, true, false, List, [], ◌∷◌, length, eqb, leb}
 use Rattle.std.proofs.Common.{sym, ◌∙◌, ap, subst, arith, leb-true, leb-false, ne_eqb}
 use Rattle.std.proofs.Math.ListN.{get_or-eq_default}
 use Rattle.rules.specs.Settings.{Settings, most_name_length}
@@ -19,6 +19,8 @@ use Rattle.document_laws.specs.Decide.{fits_in, decided}
 use Rattle.document_laws.specs.Under.{under_end, under_blank, under_ignored, under_data, under_undeclared, under_start, under_misgiven}
 use Rattle.type_laws.specs.Names.{number_of_range}
 use Rattle.text.specs.declared.Fault.{Fault}
+use Rattle.text.specs.declared.Refusal.TheVariants.{Undeclared}
+use Rattle.text.specs.Refusal.{fault_at, refusal_of}
 use Rattle.layout.specs.Sizes.{LIST}
 use Rattle.rules_laws.specs.Holds.{got_so}
 use Rattle.rules_laws.specs.Pieces.{TagRead, piece_read, piece_short}
@@ -33,7 +35,7 @@ use Rattle.type_tables.specs.Tables.{Entered}
 use Rattle.record_ends.specs.Held.{Since}
 use Rattle.pieces.specs.declared.Found.{Found}
 use Rattle.pieces.specs.declared.Found.TheVariants as found
-use Rattle.pieces.specs.Finds.{Names, Ignored, skips, separates, malformed, undeclared_start, undeclared_end, Runs, ToSettle, starts, Finds, MarksAt, Onward}
+use Rattle.pieces.specs.Finds.{Names, Ignored, skips, separates, malformed, undeclared_start, undeclared_end, Runs, ToSettle, starts, Finds, MarksAt, MovesOn, Onward}
 
 -- From the token
 
@@ -51,40 +53,45 @@ module _ (long : ℕ) (most : long ≤ most_name_length) (d : List ℕ) (at : �
   pub end_tag_asked : piece long d at ≡ got (end_tag t) → NameAsked d t
   end_tag_asked e = asked (got_so (piece_read long d at h) e) (got_so (piece_short long d at) e)
 
--- A tag whose element is x, or 0.
+-- A refusal that is passed on as r: by its number and position, and nothing is marked nor moves on.
+pub refused_as : (c : Settings) (s : List ℕ) (es : List Element) (d : List ℕ) (at : ℕ) (line : Line) (o : Open) {r : Result Found Fault} {f : Fault} (marks : List ℕ) → r ≡ Err f
+    → Finds c s es d line o at (Err f) → Finds c s es d line o at r × MarksAt c s es d at r marks
+refused_as c s es d at line o marks w u = rw w (u, tt)
+
+pub onward_refused : (len at : ℕ) {r : Result Found Fault} {f : Fault} → r ≡ Err f → Onward len at r
+onward_refused len at w = rw w tt
+
+-- A tag of a name that is not declared.
+module _ (c : Settings) (s : List ℕ) (es : List Element) (d : List ℕ) (at : ℕ) (line : Line) (o : Open) {t : Tag} {f : Fault} (u : (number_of s es d t.name t.size ≡ 0) × (f ≡ fault_at Undeclared at)) where
+  pub finds_undeclared_start : piece c.name_length d at ≡ got (start_tag t) → Finds c s es d line o at (Err f)
+  finds_undeclared_start p = rw u.1 (undeclared_start (record { name = t.name; size = t.size; written = t.written; there = under_undeclared c s es d at line o p u.0; number = u.0 }) refl refl)
+
+  pub finds_undeclared_end : piece c.name_length d at ≡ got (end_tag t) → Finds c s es d line o at (Err f)
+  finds_undeclared_end p = rw u.1 (undeclared_end (record { name = t.name; size = t.size; written = t.written; there = under_end c s es d at line o p; number = u.0 }) refl refl)
+
+-- A tag whose element is x.
 module _ (c : Settings) (s : List ℕ) (es : List Element) (d : List ℕ) (at : ℕ) (line : Line) (o : Open) {t : Tag} {x : ℕ} (q : x ≡ number_of s es d t.name t.size) where
-  pub finds_end : piece c.name_length d at ≡ got (end_tag t) → (x ≡ 0 → ⊥) → Names c s es d line o end_tag at x t.after × (1 ≤ x)
-  finds_end p l = (record { name = t.name; size = t.size; written = t.written; there = under_end c s es d at line o p; number = sym q }, omega arith)
+  pub finds_end : piece c.name_length d at ≡ got (end_tag t) → 1 ≤ x → Names c s es d line o end_tag at x t.after × (1 ≤ x)
+  finds_end p l = (record { name = t.name; size = t.size; written = t.written; there = under_end c s es d at line o p; number = sym q }, l)
 
-  module _ (z : x ≡ 0) (r : Found) (w : r ≡ found.Refused (record { number = 10; at = at })) (marks : List ℕ) where
-    pub finds_undeclared_start : piece c.name_length d at ≡ got (start_tag t) → Finds c s es d line o at r × MarksAt c s es d at r marks
-    finds_undeclared_start p = rw w (undeclared_start (record { name = t.name; size = t.size; written = t.written; there = under_undeclared c s es d at line o p (sym q ∙ z); number = sym q ∙ z }) refl refl, tt)
-
-    pub finds_undeclared_end : piece c.name_length d at ≡ got (end_tag t) → Finds c s es d line o at r × MarksAt c s es d at r marks
-    finds_undeclared_end p = rw w (undeclared_end (record { name = t.name; size = t.size; written = t.written; there = under_end c s es d at line o p; number = sym q ∙ z }) refl refl, tt)
-
-  -- A start tag, whose attributes are held against the list of the element: f is what the code says of them.
-  module _ (e : piece c.name_length d at ≡ got (start_tag t)) (some : x ≡ 0 → ⊥) where
-    pub number_some : 1 ≤ x
-    number_some = omega arith
-
+  -- A start tag, whose attributes are held against the list of the element: r is what the code says of them.
+  module _ (e : piece c.name_length d at ≡ got (start_tag t)) (some : 1 ≤ x) where
     -- Its list is in the table, and the names in it differ, as in every type.
-    pub list_held : (elements index lists given : List ℕ) (n : ℕ) → Indexed s es elements index → Lists c.name_length s es lists → KeptAs given n t.written → {marks : List ℕ} {f : Fault}
-        → ((xs : List Attribute) (ws : List Written) → ListAt c.name_length s lists (LIST * (x - 1)) xs → NamesDiffer s xs → KeptAs given n ws → Attributed s xs d ws marks f (attributed c.name_length s xs d at ws))
-        → Attributed s (element_at es (x - 1)).attributes d t.written marks f (attributed c.name_length s (element_at es (x - 1)).attributes d at t.written)
-    list_held elements index lists given n i l k said =
+    pub list_held : (elements index lists given : List ℕ) (n : ℕ) → Indexed s es elements index → Lists c.name_length s es lists → KeptAs given n t.written → {marks : List ℕ} (r : Result (Unit {0}) Fault)
+        → ((xs : List Attribute) (ws : List Written) → ListAt c.name_length s lists (LIST * (x - 1)) xs → NamesDiffer s xs → KeptAs given n ws → Attributed s xs d ws marks r (attributed c.name_length s xs d at ws))
+        → Attributed s (element_at es (x - 1)).attributes d t.written marks r (attributed c.name_length s (element_at es (x - 1)).attributes d at t.written)
+    list_held elements index lists given n i l k r said =
         let declared : x - 1 < length es = omega (arith, q, number_of_range s es d t.name t.size) in
         said (element_at es (x - 1)).attributes t.written (l (x - 1) declared) (lists_differ i.settings.name_length s es i.accepted.elements (x - 1) declared) k
 
-    module _ {marks : List ℕ} {f : Fault} (a : Attributed s (element_at es (x - 1)).attributes d t.written marks f (attributed c.name_length s (element_at es (x - 1)).attributes d at t.written)) where
-      pub finds_misgiven : (f.number ≡ 0 → ⊥) → Finds c s es d line o at (found.Refused f)
-      finds_misgiven z = malformed (under_misgiven c s es d at line o e (sym q) number_some (a.refuses z))
+    pub finds_misgiven : {f : Fault} → attributed c.name_length s (element_at es (x - 1)).attributes d at t.written ≡ refusal_of f → Finds c s es d line o at (Err f)
+    finds_misgiven a = malformed (under_misgiven c s es d at line o e (sym q) some a)
 
-      pub finds_start : f.number ≡ 0 → ToSettle c s es d line o at x t.after
-      finds_start z = starts number_some (record { name = t.name; size = t.size; written = t.written; there = under_start c s es d at line o e (sym q) number_some (a.passes z).0; number = sym q })
+    pub finds_start : attributed c.name_length s (element_at es (x - 1)).attributes d at t.written ≡ got tt → ToSettle c s es d line o at x t.after
+    finds_start a = starts some (record { name = t.name; size = t.size; written = t.written; there = under_start c s es d at line o e (sym q) some a; number = sym q })
 
-      pub marks_start : f.number ≡ 0 → (u : Tag) → piece c.name_length d at ≡ got (start_tag u) → Marked s (element_at es (x - 1)).attributes d u.written marks
-      marks_start z u p = let same : t ≡ u = cc in subst (λ (v : Tag). Marked s (element_at es (x - 1)).attributes d v.written marks) same (a.passes z).1
+    pub marks_start : {marks : List ℕ} → Marked s (element_at es (x - 1)).attributes d t.written marks → (u : Tag) → piece c.name_length d at ≡ got (start_tag u) → Marked s (element_at es (x - 1)).attributes d u.written marks
+    marks_start {marks} a u p = let same : t ≡ u = cc in subst (λ (v : Tag). Marked s (element_at es (x - 1)).attributes d v.written marks) same a
 
 -- Where no element has a list and none is given there is nothing to hold.
 nothing_given : (given : List ℕ) (ws : List Written) → KeptAs given 0 ws → ws ≡ []
@@ -99,13 +106,10 @@ none_held long s [] d at (w ∷ ws) h e = let z : ◌≡◌ {A = ℕ} 0 1 = cc i
 none_held long s (a ∷ xs) d at ws h e = absurd (omega (arith, h))
 
 pub attributed_none : (long : ℕ) (s lists d given marks : List ℕ) (at b n : ℕ) → n ≡ 0 → length lists ≡ 0 → (xs : List Attribute) (ws : List Written) → ListAt long s lists b xs → KeptAs given n ws
-    → Attributed s xs d ws marks (record { number = 0; at = 0 }) (attributed long s xs d at ws)
+    → Attributed s xs d ws marks (Ok tt) (attributed long s xs d at ws)
 attributed_none long s lists d given marks at b n z h xs ws l k =
     let few : length xs ≡ 0 = sym l.counted ∙ get_or-eq_default lists 0 (omega arith) in
-    record {
-      passes = λ e. (none_held long s xs d at ws few (nothing_given given ws (rw z at k)), λ j i. absurd (omega (arith, i, few)));
-      refuses = λ e. absurd (e refl);
-    }
+    (none_held long s xs d at ws few (nothing_given given ws (rw z at k)), λ j i. absurd (omega (arith, i, few)))
 
 -- A blank is ignored where data does not fit, and begins a run where it does. The tables answer of the element e, which the open one is.
 says : (s : List ℕ) (es : List Element) (o : Open) {e : ℕ} {r : Bool} → o.element ≡ e → r ≡ leb 1 ((decided s es).fits e o.taken pcdata) → r ≡ leb 1 (fitting s es (decided s es) o pcdata)
@@ -157,21 +161,18 @@ finds_data_run {c} {s} {es} {d} {line} {o} {at} b a =
 
 module _ (d : List ℕ) (at : ℕ) (h : at < length d) where
   -- A run of data from the next position on.
-  pub onward_run : {after : ℕ} → after ≡ run_end d (at + 1) → Onward (length d) at (found.Token (element_no 0) after)
+  pub onward_run : {after : ℕ} → after ≡ run_end d (at + 1) → MovesOn (length d) at (found.Token (element_no 0) after)
   onward_run e = let (i, j) = run_end_in d (at + 1) (omega arith) in (omega arith, omega arith, omega arith)
-
-  pub onward_refused : {p : Found} {f : Fault} → p ≡ found.Refused f → Onward (length d) at p
-  onward_refused e = rw e tt
 
   module _ {t : Tag} {x : ElementNo} (few : x.0 ≤ element_limit) where
     onward_tag : TagRead d at t → (x.0 ≤ element_limit) × (at < t.after) × (t.after ≤ length d)
     onward_tag r = (few, omega (arith, r.behind, r.ends), r.inside)
 
-    pub onward_start : (long : ℕ) → piece long d at ≡ got (start_tag t) → Onward (length d) at (found.Token x t.after)
+    pub onward_start : (long : ℕ) → piece long d at ≡ got (start_tag t) → MovesOn (length d) at (found.Token x t.after)
     onward_start long e = onward_tag (got_so (piece_read long d at h) e)
 
-    pub onward_end : (long : ℕ) → piece long d at ≡ got (end_tag t) → Onward (length d) at (found.End x t.after)
+    pub onward_end : (long : ℕ) → piece long d at ≡ got (end_tag t) → MovesOn (length d) at (found.End x t.after)
     onward_end long e = onward_tag (got_so (piece_read long d at h) e)
 
-  pub onward_skipped : (long : ℕ) {after : ℕ} → piece long d at ≡ got (skipped after) → Onward (length d) at (found.Passed after)
+  pub onward_skipped : (long : ℕ) {after : ℕ} → piece long d at ≡ got (skipped after) → MovesOn (length d) at (found.Passed after)
   onward_skipped long e = omega (arith, got_so (piece_read long d at h) e)
