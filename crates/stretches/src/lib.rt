@@ -13,26 +13,17 @@ use layout::{ANSWER, DOCUMENTS};
 pub fn ends_within(from: usize, size: usize, room: usize) -> bool
     ensures { result ≡ leb (from + size) room }
 {
-    if room < from {
-        return false;
-    }
-    size <= room - from
+    from <= room && size <= room - from
 }
 
 // Whether two stretches share no number. One without numbers shares none.
 fn are_apart(from: usize, size: usize, other: usize, its: usize) -> bool
     ensures { Apart from size other its result }
 {
-    if size == 0 {
+    if size == 0 || its == 0 {
         return true;
     }
-    if its == 0 {
-        return true;
-    }
-    if ends_within(from, size, other) {
-        return true;
-    }
-    ends_within(other, its, from)
+    ends_within(from, size, other) || ends_within(other, its, from)
 }
 
 // Whether all stretches end within so many.
@@ -40,12 +31,10 @@ fn all_within(froms: &[usize], sizes: &[usize], room: usize) -> bool
     requires { length sizes.now ≡ length froms.now }
     ensures { AllWithin froms.now sizes.now room (length froms.now) result }
 {
-    let mut i = 0;
-    while i < froms.len() {
+    for i in 0..froms.len() {
         if !ends_within(froms[i], sizes[i], room) {
             return false;
         }
-        i += 1;
     }
     true
 }
@@ -55,12 +44,10 @@ fn is_apart(froms: &[usize], sizes: &[usize], i: usize) -> bool
     requires { (length sizes.now ≡ length froms.now) × (i < length froms.now) }
     ensures { ApartFrom froms.now sizes.now i i result }
 {
-    let mut j = 0;
-    while j < i {
+    for j in 0..i {
         if !are_apart(froms[j], sizes[j], froms[i], sizes[i]) {
             return false;
         }
-        j += 1;
     }
     true
 }
@@ -70,12 +57,10 @@ fn all_apart(froms: &[usize], sizes: &[usize]) -> bool
     requires { length sizes.now ≡ length froms.now }
     ensures { AllApart froms.now sizes.now (length froms.now) result }
 {
-    let mut i = 0;
-    while i < froms.len() {
+    for i in 0..froms.len() {
         if !is_apart(froms, sizes, i) {
             return false;
         }
-        i += 1;
     }
     true
 }

@@ -1,7 +1,5 @@
 -- `are_fit` meets its contract: each way by the test that led there.
-use mathlib.Core.Path.{subst}
-use native.Mathlib.Omega.{arith}
-use lib.ListN.{length}
+use Rattle.std.proofs.Common.{subst, length, arith}
 use Rattle.rules.specs.Batch.{Equal, Unfit}
 use Rattle.stretches.specs.Fit.{AllWithin, batch_of}
 use Rattle.stretches.specs.Tests.{fits_whole, fits_passing}
