@@ -1,7 +1,7 @@
 -- `numbered` meets its contract: the document is followed under the elements that were judged, by all tables of the type.
 use mathlib.Core.Path.{refl}
 use mathlib.Core.List.{[]}
-use Rattle.rules.specs.Settings.{settings}
+use Rattle.inputs.specs.Checks.{settings_of}
 use Rattle.rules_laws.specs.Offered.{offered_range}
 use Rattle.one_document.specs.Answering.{events_numbers}
 use Rattle.document_reader.proofs.numbered.Goals as goal
@@ -17,4 +17,4 @@ events_of-requires c =
 pub returns : goal.returns
 returns c =
     let (es, a, i, tables, l) = c.fill.ensures _ c.requires.0 in
-    (es, a, events_numbers (settings c.args.long c.args.edition) c.args.s.now es c.args.d.now c.args.numbers.now c.events_of.new.numbers [] c.events_of.new.bytes c.events_of.result (c.events_of.ensures es i tables l))
+    (es, a, events_numbers (settings_of c.args.a.settings) c.args.a.file.now es c.args.d.now c.args.numbers.now c.events_of.new.numbers [] c.events_of.new.bytes c.events_of.result (c.events_of.ensures es i tables l))

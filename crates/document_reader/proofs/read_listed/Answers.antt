@@ -10,6 +10,6 @@ read_tabled-requires c = (c.requires.0, c.requires.1, inl refl)
 
 pub read_tabled-requires-2 : goal.read_tabled-requires-2
 read_tabled-requires-2 c =
-    let s = c.args.s.now in
+    let s = c.args.a.file.now in
     let none = subst (Tells s (length s)) c.if-holds_and.false c.holds_and.ensures in
     (c.requires.0, c.requires.1, inr (refl, none))

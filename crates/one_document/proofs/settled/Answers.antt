@@ -5,14 +5,12 @@ use Rattle.rules.specs.Lent.{Lent}
 use Rattle.one_document.specs.Answering.{count_fits, read_accepted, read_refused}
 use Rattle.one_document.proofs.settled.Goals as goal
 
-pub returns-then-refuses : goal.returns-then-refuses
-returns-then-refuses c settings s d before same h =
+pub returns-then-is_err : goal.returns-then-is_err
+returns-then-is_err c settings s d before same h =
     let a = c.args in
-    let g = sym c.refuses.ensures ∙ c.if-refuses.true in
-    (read_refused Lent.bytes settings s d [] [] before a.buffer.now a.a c.fitted-b.result h same c.fitted-b.ensures _ g (c.fill.ensures.after (λ y e. e)), count_fits settings s d [] [] before a.buffer.now _ a.a h c.fitted-b.ensures)
+    (read_refused Lent.bytes settings s d [] [] before a.buffer.now a.a c.fitted-b.result h same c.fitted-b.ensures _ ? (c.fill.ensures.after (λ y e. e)), count_fits settings s d [] [] before a.buffer.now _ a.a h c.fitted-b.ensures)
 
-pub returns-else-refuses : goal.returns-else-refuses
-returns-else-refuses c settings s d before same h =
+pub returns-else-is_err : goal.returns-else-is_err
+returns-else-is_err c settings s d before same h =
     let a = c.args in
-    let g = sym c.refuses.ensures ∙ c.if-refuses.false in
-    (read_accepted Lent.bytes settings s d [] [] before a.buffer.now a.a c.fitted-b.result h same c.fitted-b.ensures g, count_fits settings s d [] [] before a.buffer.now _ a.a h c.fitted-b.ensures)
+    (read_accepted Lent.bytes settings s d [] [] before a.buffer.now a.a c.fitted-b.result h same c.fitted-b.ensures ?, count_fits settings s d [] [] before a.buffer.now _ a.a h c.fitted-b.ensures)
