@@ -9,11 +9,15 @@ use Rattle.printed_text.proofs.put_events.Goals as goal
 pub listed-total-requires : goal.listed-total-requires
 listed-total-requires c = (c.requires.1, length-replicate {A = ℕ} ATTRIBUTE_RECORDS 0)
 
-pub put_events-requires : goal.put_events-requires
-put_events-requires c =
+pub invariant_of-names : goal.invariant_of-names
+invariant_of-names c =
     let (es, accepted) = c.requires.1 in
     let listed = c.listed-total.ensures in
-    (omega arith, table_fits _ es accepted _ _ _ refl (judged_given c.given.ensures c.judge.ensures), omega arith, listed.few, listed.fits)
+    record {
+      elements_fit = table_fits _ es accepted _ _ _ refl (judged_given c.given.ensures c.judge.ensures);
+      attributes_fit = listed.fits;
+      few = listed.few;
+    }
 
 pub returns : goal.returns
 returns c =
