@@ -1,6 +1,9 @@
 -- Members put as bits, eight in a number.
-use Rattle.std.specs.Prelude.{ℕ, ◌+◌, ◌-◌, ◌*◌, ◌/◌, ◌%◌, ◌^◌, ◌≤◌, ◌<◌, ◌≡◌, refl, Bool, ◌⊎◌, List, eqb, ltb, length, get_or, set}
-use Rattle.std.proofs.Common.{◌∙◌, ap, inl, inr, arith, length-set, shr-shr, get_or-set_same, get_or-set_other, ltb-true, ltb-false}
+use Rattle.std.specs.Int.{bytes_low_first, byte_at, to_le_bytes}
+use Rattle.std.proofs.lemmas.List.{get_or-append_right, get_or-drop, get_or-take}
+use Rattle.std.proofs.Math.ListN.{get_or-append}
+use Rattle.std.specs.Prelude.{ℕ, zero, suc, ◌++◌, take, drop, ◌+◌, ◌-◌, ◌*◌, ◌/◌, ◌%◌, ◌^◌, ◌≤◌, ◌<◌, ◌≡◌, refl, Bool, ◌⊎◌, List, eqb, ltb, length, get_or, set}
+use Rattle.std.proofs.Common.{sym, pow-suc, pow-add, ◌∙◌, ap, inl, inr, arith, w64, length-append, length-drop, length-take-le, shr-shr, ltb-true, ltb-false}
 use Rattle.std.proofs.Math.Decide.{ℕ_discrete}
 use Rattle.std.proofs.Math.Pow.{field, mod-mod-pow}
 use Rattle.layout.specs.Sizes.{POSITIONS, MEMBER_BITS}
@@ -15,28 +18,52 @@ pub record Stored (M : List ℕ) (i x n : ℕ) (S : List ℕ) : Type 0 where
   pub others : (k : ℕ) → (k < i) ⊎ (i + n ≤ k) → get_or S k 0 ≡ get_or M k 0
   pub bytes : (j : ℕ) → j < n → get_or S (i + j) 0 ≡ x / 2 ^ (8 * j) % 256
 
-pub stored_none : (M : List ℕ) (i x : ℕ) → Stored M i x 0 M
-stored_none M i x = record { len = refl; others = λ k l. refl; bytes = λ j l. absurd (omega arith) }
+-- The bytes of a number as std has them.
+bytes_read : (x i k j : ℕ) → j < k → get_or (bytes_low_first i k x) j 0 ≡ byte_at (i + j) x
+bytes_read x i zero j l = absurd (omega arith)
+bytes_read x i (suc k) zero l = let e : i ≡ i + 0 = omega arith in ap (λ (n : ℕ). byte_at n x) e
+bytes_read x i (suc k) (suc j) l = let e : suc i + j ≡ i + suc j = omega arith in bytes_read x (suc i) k j (omega arith) ∙ ap (λ (n : ℕ). byte_at n x) e
 
-pub stored_one : (M : List ℕ) (i x n : ℕ) (S : List ℕ) → Stored M i x n S → i + n < length M → (y : ℕ) → y ≡ x / 2 ^ (8 * n) % 256 → Stored M i x (n + 1) (set S (i + n) y)
-stored_one M i x n S w room y is =
-    record {
-      len = length-set S (i + n) y ∙ w.len;
-      others = λ k l. get_or-set_other S (i + n) k y 0 (apart k l) ∙ w.others k (wider k l);
-      bytes = λ j l. go j l (ℕ_discrete j n);
-    }
-  where
-    apart : (k : ℕ) → (k < i) ⊎ (i + (n + 1) ≤ k) → k ≡ i + n → ⊥
-    apart k (inl l) z = omega arith
-    apart k (inr l) z = omega arith
+byte_power : (k : ℕ) → 256 ^ k ≡ 2 ^ (8 * k)
+byte_power zero = refl
+byte_power (suc k) = let e : 8 * k + 8 ≡ 8 * suc k = omega arith in pow-suc 256 k ∙ ap (λ (n : ℕ). n * 256) (byte_power k) ∙ sym (pow-add 2 (8 * k) 8) ∙ ap (λ (n : ℕ). 2 ^ n) e
 
-    wider : (k : ℕ) → (k < i) ⊎ (i + (n + 1) ≤ k) → (k < i) ⊎ (i + n ≤ k)
-    wider k (inl l) = inl l
-    wider k (inr l) = inr (omega arith)
+byte_is : (j x : ℕ) → byte_at j x ≡ x / 2 ^ (8 * j) % 256
+byte_is zero x = let e : x % 256 ≡ x / 1 % 256 = omega arith in e
+byte_is (suc j) x = ap (λ (n : ℕ). x / n % 256) (byte_power (suc j))
 
-    go : (j : ℕ) → j < n + 1 → Dec (j ≡ n) → get_or (set S (i + n) y) (i + j) 0 ≡ x / 2 ^ (8 * j) % 256
-    go j l (yes z) = rw z (get_or-set_same S (i + n) y 0 (omega (arith, w.len)) ∙ is)
-    go j l (no z) = get_or-set_other S (i + n) (i + j) y 0 (λ e. z (omega arith)) ∙ w.bytes j (omega arith)
+byte_of_whole : (x j : ℕ) → j < 8 → get_or (to_le_bytes w64 x) j 0 ≡ x / 2 ^ (8 * j) % 256
+byte_of_whole x j l = let e : 0 + j ≡ j = omega arith in bytes_read x 0 8 j l ∙ ap (λ (n : ℕ). byte_at n x) e ∙ byte_is j x
+
+pub bytes_whole : (x : ℕ) (bytes : List ℕ) → bytes ≡ to_le_bytes w64 x → (length bytes ≡ 8) × ((j : ℕ) → j < 8 → get_or bytes j 0 ≡ x / 2 ^ (8 * j) % 256)
+bytes_whole x bytes e = (ap length e, λ j l. ap (λ (b : List ℕ). get_or b j 0) e ∙ byte_of_whole x j l)
+
+pub bytes_part : (x n : ℕ) (bytes : List ℕ) → n ≤ 8 → bytes ≡ take n (to_le_bytes w64 x) → (length bytes ≡ n) × ((j : ℕ) → j < n → get_or bytes j 0 ≡ x / 2 ^ (8 * j) % 256)
+bytes_part x n bytes few e = (ap length e ∙ length-take-le n (to_le_bytes w64 x) few, λ j l. ap (λ (b : List ℕ). get_or b j 0) e ∙ get_or-take n (to_le_bytes w64 x) j 0 l ∙ byte_of_whole x j (omega arith))
+
+-- Bytes are copied to the place i.
+module _ (M : List ℕ) (i x n : ℕ) (bytes : List ℕ) (room : i + n ≤ length M) (says : (length bytes ≡ n) × ((j : ℕ) → j < n → get_or bytes j 0 ≡ x / 2 ^ (8 * j) % 256)) where
+  before : length (take i M) ≡ i
+  before = length-take-le i M (omega arith)
+
+  both : length (take i M ++ bytes) ≡ i + n
+  both = length-append (take i M) bytes ∙ omega (arith, before, says.0)
+
+  pub stored : (S : List ℕ) → S ≡ take i M ++ bytes ++ drop (i + length bytes) M → Stored M i x n S
+  stored S e = rw e record {
+    len = length-append (take i M ++ bytes) (drop (i + length bytes) M) ∙ omega (arith, both, length-drop (i + length bytes) M, says.0);
+    others = others;
+    bytes = λ j l. get_or-append (take i M ++ bytes) (drop (i + length bytes) M) 0 (i + j) (omega (arith, both)) ∙ get_or-append_right (take i M) bytes i (i + j) 0 before (omega arith) ∙ inner j l;
+  }
+    where
+      inner : (j : ℕ) → j < n → get_or bytes (i + j - i) 0 ≡ x / 2 ^ (8 * j) % 256
+      inner j l = let e : i + j - i ≡ j = omega arith in ap (λ (k : ℕ). get_or bytes k 0) e ∙ says.1 j l
+
+      others : (k : ℕ) → (k < i) ⊎ (i + n ≤ k) → get_or (take i M ++ bytes ++ drop (i + length bytes) M) k 0 ≡ get_or M k 0
+      others k (inl l) = get_or-append (take i M ++ bytes) (drop (i + length bytes) M) 0 k (omega (arith, both)) ∙ get_or-append (take i M) bytes 0 k (omega (arith, before)) ∙ get_or-take i M k 0 l
+      others k (inr l) =
+          let e : i + length bytes + (k - (i + n)) ≡ k = omega (arith, says.0) in
+          get_or-append_right (take i M ++ bytes) (drop (i + length bytes) M) (i + n) k 0 both l ∙ get_or-drop (i + length bytes) M (k - (i + n)) 0 ∙ ap (λ (m : ℕ). get_or M m 0) e
 
 -- A bit of a byte of x is one of x.
 byte_bit : (y r : ℕ) → r < 8 → y % 256 / 2 ^ r % 2 ≡ y / 2 ^ r % 2

@@ -2,13 +2,13 @@
 // it, how far out these can end with it; and which members cannot be nothing.
 #![tactic(auto)]
 
-ghost use Rattle.std.specs.Prelude.{◌≡◌, ◌+◌, ◌*◌, ◌/◌, ◌%◌, ◌^◌, ◌≤◌, ◌<◌, length, set};
+ghost use Rattle.std.specs.Prelude.{◌≡◌, ◌+◌, ◌*◌, ◌≤◌, ◌<◌, IsTrue, ◌↔◌, ◌++◌, length, take, drop, set};
 ghost use Rattle.rules.specs.Bytes.{element_limit};
 ghost use Rattle.layout.specs.Sizes.{REACHES, MEMBER, MEMBERS, AND_GROUPS, CONTENTS, ENDING, MEMBER_BITS, POSITIONS};
 ghost use Rattle.member_laws.specs.Members.{reach_at};
 ghost use Rattle.member_bits.specs.Having.{Has};
 ghost use Rattle.member_table.specs.Filling.{filled};
-ghost use Rattle.member_sets.specs.Storing.{Stored, PutBits};
+ghost use Rattle.member_sets.specs.Storing.{PutBits};
 ghost use Rattle.member_sets.specs.Linking.{is_due, Found, PutGroup, Linked};
 
 use layout::{
@@ -16,24 +16,14 @@ use layout::{
     POSITIONS, REACHES, SETS,
 };
 use member_bits::Bits;
+use member_numbers::Members;
 
-// The byte j of x, from the lowest on.
-fn byte_of(x: usize, j: usize) -> u8
-    requires { j < 8 }
-    ensures { result ≡ x / 2 ^ (8 * j) % 256 }
+// The bytes are put from i on.
+fn put_bytes(members: &mut [u8], i: usize, bytes: &[u8])
+    requires { i + length bytes.now ≤ length members.old }
+    ensures { members.new ≡ take i members.old ++ bytes.now ++ drop (i + length bytes.now) members.old }
 {
-    ((x >> (8 * j)) % 256) as u8
-}
-
-// The n lowest bytes of x are put from i on, the lowest first.
-fn put_bytes(members: &mut [u8], i: usize, x: usize, n: usize)
-    requires n_in_bounds { i + n ≤ length members.old }
-    requires n_bound { (i + n ≤ MEMBERS) × (n ≤ 8) }
-    ensures { Stored members.old i x n members.new }
-{
-    for j in 0..n {
-        members[i + j] = byte_of(x, j);
-    }
+    members[i..i + bytes.len()].copy_from_slice(bytes);
 }
 
 // The numbers from i on become the bits of the members b.
@@ -42,8 +32,9 @@ fn put_bits(members: &mut [u8], i: usize, b: Bits)
     requires i_bound { i + MEMBER_BITS ≤ MEMBERS }
     ensures { PutBits members.old i b members.new }
 {
-    put_bytes(members, i, b.low, 8);
-    put_bytes(members, i + 8, b.high, 4);
+    let high = b.high.to_le_bytes();
+    put_bytes(members, i, &b.low.to_le_bytes());
+    put_bytes(members, i + 8, &high[..4]);
 }
 
 // What is put of a group: the members that hold it, those of the group and of those around it, and how far out these can end with it.
@@ -54,64 +45,46 @@ pub struct Sets {
     pub reach: usize,
 }
 
-// The group f of the member h, if this is one and f is a group around the group g; or 0.
-fn around_of(g: usize, h: usize, f: usize) -> usize
-    ensures { (1 ≤ result → (result ≡ f) × (1 ≤ h) × (h < POSITIONS) × (g < f) × (f ≤ AND_GROUPS)) × (1 ≤ h → h < POSITIONS → g < f → f ≤ AND_GROUPS → 1 ≤ result) }
+// Whether h is a member and f, its group, one around the group g.
+fn is_around(g: usize, h: usize, f: usize) -> bool
+    ensures { IsTrue result ↔ ((1 ≤ h) × (h < POSITIONS) × (g < f) × (f ≤ AND_GROUPS)) }
 {
-    if h == 0 {
-        return 0;
-    }
-    if GRPGTCNT < h {
-        return 0;
-    }
-    if f <= g {
-        return 0;
-    }
-    if AND_GROUPS < f {
-        return 0;
-    }
-    f
+    1 <= h && h <= GRPGTCNT && g < f && f <= AND_GROUPS
 }
 
 // How far out the groups can end with the group g: where the member that holds it can, as far as from the group f of that member.
-fn reach_from(members: &[u8], e: ElementNo, g: usize, outer: usize, f: usize) -> usize
-    requires in_bounds { MEMBERS ≤ length members.now }
-    requires e_le_element_limit { (e.0 ≤ element_limit) × (g ≤ AND_GROUPS) × (f ≤ AND_GROUPS) }
-    ensures { (ENDING < outer → result ≡ reach_at members.now e.0 f) × (outer ≤ ENDING → result ≡ g) × (result ≤ 255) }
+fn reach_from(m: Members, g: usize, outer: usize, f: usize) -> usize
+    requires { (g ≤ AND_GROUPS) × (f ≤ AND_GROUPS) }
+    ensures { (ENDING < outer → result ≡ reach_at m.entry.table.now m.entry.e.0 f) × (outer ≤ ENDING → result ≡ g) × (result ≤ 255) }
 {
     if ENDING < outer {
-        return member_numbers::reach_of(members, e, f);
+        return m.reach_of(f);
     }
     g
 }
 
 // What is to be put of the group g, by what has been put of the group around it.
-fn around(members: &[u8], e: ElementNo, g: usize) -> Sets
-    requires in_bounds { MEMBERS ≤ length members.now }
-    requires e_le_element_limit { (e.0 ≤ element_limit) × (g ≤ AND_GROUPS) }
-    ensures { Found members.now e.0 g result }
+fn around(m: Members, g: usize) -> Sets
+    requires { g ≤ AND_GROUPS }
+    ensures { Found m.entry.table.now m.entry.e.0 g result }
 {
-    let first = member_numbers::of_group(members, e, g, 0);
-    let size = member_numbers::of_group(members, e, g, 2);
-    let own = member_bits::range(first, size);
-    let outer = member_numbers::of_group(members, e, g, 3);
+    let first = m.of_group(g, 0);
+    let size = m.of_group(g, 2);
+    let own = Bits::range(first, size);
+    let outer = m.of_group(g, 3);
     let h = outer % ENDING;
-    let f = around_of(g, h, member_numbers::group_of(members, e, h));
-    if f == 0 {
-        let none = member_bits::none();
+    let f = m.group_of(h);
+    if !is_around(g, h, f) {
         return Sets {
-            holding: none,
+            holding: Bits::none(),
             among: own,
             reach: g,
         };
     }
-    let reach = reach_from(members, e, g, outer, f);
-    let holding = member_bits::with(member_numbers::holding(members, e, f), h);
-    let among = member_bits::joined(own, member_numbers::among(members, e, f));
     Sets {
-        holding: holding,
-        among: among,
-        reach: reach,
+        holding: m.holding(f).with(h),
+        among: own | m.among(f),
+        reach: reach_from(m, g, outer, f),
     }
 }
 
@@ -130,36 +103,30 @@ fn put_group(members: &mut [u8], e: ElementNo, g: usize)
     requires e_le_element_limit { (e.0 ≤ element_limit) × (g ≤ AND_GROUPS) }
     ensures { PutGroup members.old e.0 g members.new }
 {
-    let a = around(members, e, g);
-    let holding = a.holding;
-    let among = a.among;
-    let reach = a.reach;
+    let a = around(Members { table: members, e }, g);
     let i = e.0 * MEMBER + SETS + g * (2 * MEMBER_BITS);
-    put_bits(members, i, holding);
-    put_bits(members, i + MEMBER_BITS, among);
-    put_reach(members, e, g, reach);
+    put_bits(members, i, a.holding);
+    put_bits(members, i + MEMBER_BITS, a.among);
+    put_reach(members, e, g, a.reach);
 }
 
 // Whether the member h cannot be nothing.
-fn is_needed(members: &[u8], e: ElementNo, h: usize) -> bool
-    requires in_bounds { MEMBERS ≤ length members.now }
-    requires e_le_element_limit { (e.0 ≤ element_limit) × (h ≤ 255) }
-    ensures { result ≡ is_due members.now e.0 h }
+fn is_needed(m: Members, h: usize) -> bool
+    requires { h ≤ 255 }
+    ensures { result ≡ is_due m.entry.table.now m.entry.e.0 h }
 {
-    let g = member_numbers::group_of(members, e, h);
-    h < member_numbers::of_group(members, e, g, 0) + member_numbers::of_group(members, e, g, 1)
+    let g = m.group_of(h);
+    h < m.of_group(g, 0) + m.of_group(g, 1)
 }
 
 // The members that cannot be nothing.
-fn needed_of(members: &[u8], e: ElementNo) -> Bits
-    requires in_bounds { MEMBERS ≤ length members.now }
-    requires e_le_element_limit { e.0 ≤ element_limit }
-    ensures { Has result (is_due members.now e.0) }
+fn needed_of(m: Members) -> Bits
+    ensures { Has result (is_due m.entry.table.now m.entry.e.0) }
 {
-    let mut b = member_bits::none();
+    let mut b = Bits::none();
     for h in 1..POSITIONS {
-        if is_needed(members, e, h) {
-            b = member_bits::with(b, h);
+        if is_needed(m, h) {
+            b = b.with(h);
         }
     }
     b
@@ -175,11 +142,9 @@ pub fn fill(members: &mut [u8], e: ElementNo, table: &[u8; MODEL], n: usize)
     if members.len() < MEMBERS {
         return;
     }
-    let b = needed_of(members, e);
+    let b = needed_of(Members { table: members, e });
     put_bits(members, e.0 * MEMBER + NEEDED, b);
-    let mut g = AND_GROUPS;
-    while 1 <= g {
+    for g in (1..AND_GROUPS + 1).rev() {
         put_group(members, e, g);
-        g -= 1;
     }
 }

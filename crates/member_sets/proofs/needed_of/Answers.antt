@@ -5,19 +5,16 @@ use Rattle.member_sets.proofs.needed_of.Goals as goal
 use Rattle.member_sets.proofs.needed_of.Goals.{then-is_needed, else-is_needed}
 
 pub loop-h-init : goal.loop-h-init
-loop-h-init c = (omega arith, before_none _ _ c.none-b.ensures)
-
-pub with-b-requires : goal.with-b-requires
-with-b-requires c = (omega arith, omega arith)
+loop-h-init c = before_none _ _ c.none-b.ensures
 
 pub loop-h-preserved : goal.loop-h-preserved
 loop-h-preserved c = let i = c.loop-h in
-    let a = c.args in
-    let due = is_due a.members.now a.e.0 in
+    let m = c.args.m in
+    let due = is_due m.table.now m.e.0 in
     elim c.if-is_needed.branch [
-      | then-is_needed w ↦ rw w.b-is (omega arith, before_with due i.b _ i.h (sym c.is_needed.ensures ∙ w.if-is_needed.true) w.with-b.ensures i.invariant.1)
-      | else-is_needed w ↦ rw w.b-is (omega arith, before_pass due i.b i.h (sym c.is_needed.ensures ∙ w.if-is_needed.false) i.invariant.1)
+      | then-is_needed w ↦ rw w.b-is (before_with due i.b _ i.h (sym c.is_needed.ensures ∙ w.if-is_needed.true) w.with-b.ensures i.invariant)
+      | else-is_needed w ↦ rw w.b-is (before_pass due i.b i.h (sym c.is_needed.ensures ∙ w.if-is_needed.false) i.invariant)
     ]
 
 pub returns : goal.returns
-returns c = before_all _ _ _ (omega arith) c.loop-h.invariant.1
+returns c = before_all _ _ _ (omega arith) c.loop-h.invariant
