@@ -20,6 +20,7 @@ pub struct Counts {
 
 // What is kept of a model while it is read: where it ends so far, how many places and content tokens it has, what
 // its table goes on with, how many numbers its code has, and where the first "&" of the group stands and the first that is refused, or 0.
+// Kept: 0 is none, as in the rules' `earlier` (fixed): with an Option, `joined_by` would ask that no "&" stands at 0, which it does not.
 #[derive(Drop)]
 pub struct Model {
     pub at: usize,

@@ -85,12 +85,11 @@ pub fn clear_row(table: &mut [u8; MODEL], u: usize)
     requires { u < POSITIONS }
     ensures { table.new ≡ clear_row table.old u }
 {
-    for c in 0..MODEL_ROW {
-        table[u * MODEL_ROW + c] = 0;
-    }
+    table[u * MODEL_ROW..(u + 1) * MODEL_ROW].fill(0);
 }
 
 // No place of [mid, hi) can begin any more.
+// Kept: no `fill` of the range (fixed): the clause asks nothing of mid, which may lie behind hi.
 pub fn unbegin(table: &mut [u8; MODEL], mid: usize, hi: usize)
     requires { hi ≤ POSITIONS }
     ensures { table.new ≡ unbegin table.old mid hi }

@@ -1,5 +1,4 @@
 -- `link_row` meets its contract. The invariant: what is left to do, done to the table as it is, gives the table that is to be.
-use Prim.Native.Nat.{◌-◌}
 use mathlib.Core.Path.{◌≡◌}
 use Rattle.model_links.specs.Links.{link_row}
 use Rattle.model_links.proofs.link_row.Given as goal

@@ -1,6 +1,5 @@
 -- `unbegin` meets its contract. The invariant: what is left to do, done to the table as it is, gives the table that is to be.
 use Rattle.model_links.specs.Links as Links
-use Prim.Native.Nat.{◌-◌}
 use mathlib.Core.Path.{◌≡◌}
 use Rattle.model_links.specs.Links.{unbegin_cell}
 use Rattle.model_links.proofs.unbegin.Given as goal
