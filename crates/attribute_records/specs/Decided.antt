@@ -1,6 +1,6 @@
 -- Laws of what is decided on a type file's attributes, and of the lent buffer after it.
-use Rattle.std.specs.Prelude.{ℕ, ◌+◌, ◌*◌, ◌≤◌, ◌<◌, ◌≡◌, refl, List, length, replicate}
-use Rattle.std.proofs.Common.{sym, ap, ◌∙◌, inl, inr, arith}
+use Rattle.std.specs.Prelude.{ℕ, ◌+◌, ◌*◌, ◌≤◌, ◌<◌, ◌≡◌, refl, true, false, List, length, replicate, Result, Ok, Err, is_ok}
+use Rattle.std.proofs.Common.{sym, ap, ◌∙◌, true≢false, inl, inr, arith}
 use Rattle.rules.specs.Settings.{Settings}
 use Rattle.rules.specs.Lent.{Lent, numbers, bytes, standing, room, filled_with, zeroed}
 use Rattle.rules.specs.Attributes.{AttList}
@@ -13,8 +13,9 @@ use Rattle.list_table.specs.Lists.{ListAt}
 use Rattle.list_table.specs.Lists as table
 use Rattle.attribute_lists.specs.Listed.{Headed, HeadedAs}
 use Rattle.attribute_lists.specs.Heads.{lists_filled}
-use Rattle.type_judge.specs.declared.Verdict.{Verdict}
-use Rattle.type_judge.specs.declared.Verdict.TheVariants.{Accepted, Malformed, Ambiguous}
+use Rattle.text.specs.declared.Fault.{Fault}
+use Rattle.type_judge.specs.declared.TypeFault.{TypeFault}
+use Rattle.type_judge.specs.declared.TypeFault.TheVariants.{Malformed}
 use Rattle.type_judge.specs.Decides.{answer_of}
 use Rattle.type_judge.specs.Decides as judge
 use Rattle.attribute_records.specs.Recorded.{Holds, PutsLists, ListsUnder, RefusesList, Decides}
@@ -26,27 +27,27 @@ module _ (long : ℕ) (s heads lists : List ℕ) (n : ℕ) (filled : (ls : List 
   filled_lists : (es : List Element) → length es ≡ n → HeadedAs long s heads es → table.Lists long s es lists
   filled_lists es e u = lists_filled u lists (λ ls h k l. filled ls h k (omega arith))
 
-  pub listed_full : room < attribute_width * r → ListsUnder long s heads n room numbers bytes numbers' bytes' (Malformed (record { number = 19; at = 0 }))
-  listed_full h es e u =
+  pub listed_full : (f : Fault) → room < attribute_width * r → f ≡ record { number = 19; at = 0 } → ListsUnder long s heads n room numbers bytes numbers' bytes' (Err f)
+  listed_full f h q es e u =
       let t = (put long s es e (filled_lists es e u)).0 in
-      (omega arith, refl)
+      (omega arith, rw q refl)
 
-  pub listed_put : attribute_width * r ≤ room → ListsUnder long s heads n room numbers bytes numbers' bytes' (Accepted r)
+  pub listed_put : attribute_width * r ≤ room → ListsUnder long s heads n room numbers bytes numbers' bytes' (Ok r)
   listed_put h es e u =
       let (t, w) = put long s es e (filled_lists es e u) in
       (omega arith, t, w)
 
 -- The judge's verdict, where it has room for all elements, and what is listed where it accepts.
 module _ (c : Settings) (s elements heads : List ℕ) (room : ℕ) (numbers bytes : List ℕ) where
-  pub decided_refused : (v : Verdict) → judge.Decides c s RECORDS elements heads v → ((n : ℕ) → v ≡ Accepted n → ⊥) → Decides c s room numbers bytes numbers bytes v
-  decided_refused (Accepted n) d other = absurd (other n refl)
-  decided_refused (Malformed f) d other = inl d
-  decided_refused (Ambiguous x) d other = inl d
+  pub decided_refused : (x : TypeFault) (v : Result ℕ TypeFault) → judge.Decides c s RECORDS elements heads (Err x) → v ≡ Err x → Decides c s room numbers bytes numbers bytes v
+  decided_refused x v d e = rw e (inl d)
 
-  pub decided_listed : (n : ℕ) (numbers' bytes' : List ℕ) → judge.Decides c s RECORDS elements heads (Accepted n) → (v : Verdict) → ListsUnder c.name_length s heads n room numbers bytes numbers' bytes' v → Decides c s room numbers bytes numbers' bytes' v
-  decided_listed n numbers' bytes' d (Accepted t) w = let (es, a, count, fits, few, recorded, u) = d in (es, a, w es (sym count) u)
-  decided_listed n numbers' bytes' d (Malformed f) w = let (es, a, count, fits, few, recorded, u) = d in inr (es, a, w es (sym count) u)
-  decided_listed n numbers' bytes' d (Ambiguous x) w = let (es, a, count, fits, few, recorded, u) = d in absurd (w es (sym count) u)
+  pub decided_listed : (n : ℕ) (numbers' bytes' : List ℕ) → judge.Decides c s RECORDS elements heads (Ok n) → (t : ℕ) → ListsUnder c.name_length s heads n room numbers bytes numbers' bytes' (Ok t) → Decides c s room numbers bytes numbers' bytes' (Ok t)
+  decided_listed n numbers' bytes' d t w = let (es, a, count, fits, few, recorded, u) = d in (es, a, w es (sym count) u)
+
+  pub decided_full : (n : ℕ) (numbers' bytes' : List ℕ) → judge.Decides c s RECORDS elements heads (Ok n) → (f : Fault) (v : Result ℕ TypeFault) → ListsUnder c.name_length s heads n room numbers bytes numbers' bytes' (Err f) → v ≡ Err (Malformed f)
+      → Decides c s room numbers bytes numbers' bytes' v
+  decided_full n numbers' bytes' d f v w e = let (es, a, count, fits, few, recorded, u) = d in rw e (inr (es, a, w es (sym count) u))
 
 -- The buffer that is lent.
 abbrev pub lent_of : Lent → (numbers bytes : List ℕ) → List ℕ
@@ -58,24 +59,26 @@ holds_lent numbers {n} {xs = xs} w h = w.numbers_hold (standing_fits numbers xs 
 holds_lent bytes {b = b} {xs = xs} w h = w.bytes_hold (standing_fits bytes xs b h)
 
 -- What the lent buffer holds after it, filled or zeroed.
-module _ (l : Lent) (c : Settings) (s n b n' b' : List ℕ) (v : Verdict) (d : Decides c s (room l (lent_of l n b)) n b n' b' v) where
-  pub listed_accepts : (t : ℕ) → v ≡ Accepted t → Lists l c s (lent_of l n b) (answer_of v) (lent_of l n' b')
-  listed_accepts t e =
-      let (es, a, (fits, count, w)) = rw e at d in
-      let size = lists_length 1 es in
-      rw e (accepts es a fits (ap acceptance count) (holds_lent l w (omega arith)))
+module _ (l : Lent) (c : Settings) (s n b n' b' : List ℕ) (v : Result ℕ TypeFault) (d : Decides c s (room l (lent_of l n b)) n b n' b' v) where
+  pub listed_accepts : is_ok v ≡ true → Lists l c s (lent_of l n b) (answer_of v) (lent_of l n' b')
+  listed_accepts e = by_verdict v refl d
+    where
+      by_verdict : (u : Result ℕ TypeFault) → v ≡ u → Decides c s (room l (lent_of l n b)) n b n' b' u → Lists l c s (lent_of l n b) (answer_of v) (lent_of l n' b')
+      by_verdict (Ok t) q (es, a, (fits, count, w)) =
+          let size = lists_length 1 es in
+          rw q (accepts es a fits (ap acceptance count) (holds_lent l w (omega arith)))
+      by_verdict (Err x) q h = absurd (true≢false (sym (rw q at e)))
 
-  pub listed_refuses : (after : List ℕ) → ((t : ℕ) → v ≡ Accepted t → ⊥) → after ≡ zeroed (lent_of l n b) → Lists l c s (lent_of l n b) (answer_of v) after
-  listed_refuses after other q = by_verdict v refl d
+  pub listed_refuses : (after : List ℕ) → is_ok v ≡ false → after ≡ zeroed (lent_of l n b) → Lists l c s (lent_of l n b) (answer_of v) after
+  listed_refuses after e q = by_verdict v refl d
     where
       by_list : {a : Answer} → RefusesList c s (room l (lent_of l n b)) a → Lists l c s (lent_of l n b) a after
       by_list (inl x) = refuses x q
       by_list (inr x) = let (es, a, (h, e)) = x in no_room es a h e q
 
-      by_verdict : (u : Verdict) → v ≡ u → Decides c s (room l (lent_of l n b)) n b n' b' u → Lists l c s (lent_of l n b) (answer_of v) after
-      by_verdict (Accepted t) e h = absurd (other t e)
-      by_verdict (Malformed f) e h = rw e (by_list h)
-      by_verdict (Ambiguous x) e h = rw e (by_list h)
+      by_verdict : (u : Result ℕ TypeFault) → v ≡ u → Decides c s (room l (lent_of l n b)) n b n' b' u → Lists l c s (lent_of l n b) (answer_of v) after
+      by_verdict (Ok t) z h = absurd (true≢false (rw z at e))
+      by_verdict (Err x) z h = rw z (by_list h)
 
 -- A buffer of the same length is zeroed alike.
 pub zeroed_kept : (before now : List ℕ) {after : List ℕ} → length now ≡ length before → after ≡ zeroed now → after ≡ zeroed before

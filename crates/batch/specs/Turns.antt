@@ -7,7 +7,16 @@ use Rattle.rules.specs.Settings.{Settings}
 use Rattle.rules.specs.Lent.{Lent, filled_with}
 use Rattle.rules.specs.Judge.{Answer}
 use Rattle.rules.specs.Calls.{answer_numbers}
+use Rattle.text.specs.declared.Refusal.{Refusal}
+use Rattle.text.specs.Refusal.{fault_at}
+use Rattle.type_judge.specs.declared.TypeFault.TheVariants.{Malformed}
+use Rattle.type_stage.specs.declared.Refused.{Refused}
+use Rattle.type_stage.specs.declared.Refused.TheVariants.{InType}
 use Rattle.rules.specs.Batch.{Batch, answer_width, stretch, InStretch, Has, Equal, Unfit, PartAs, AllRead, batch_limit}
+
+-- The refusal of the whole call, for its settings or its lists.
+abbrev pub refused_for : Refusal → Refused
+refused_for why = InType (Malformed (fault_at why 0))
 
 -- How long a stretch is that ends within.
 pub stretch_length : (from size : ℕ) (l : List ℕ) → from + size ≤ length l → length (stretch from size l) ≡ size

@@ -12,14 +12,27 @@ ghost use Rattle.inputs.specs.Checks.{settings_of};
 ghost use Rattle.stretches.specs.Fit.{batch_of};
 ghost use Rattle.one_document.specs.Answer.{answer_of};
 ghost use Rattle.answer_numbers.specs.Fits.{AnswerFits};
-ghost use Rattle.batch_parts.specs.Ready.{Ready};
-ghost use Rattle.batch.specs.Turns.{replaced};
+ghost use Rattle.batch_parts.specs.Ready.{Ready, ReadyFor};
+ghost use Rattle.batch.specs.Turns.{replaced, refused_for};
 
 use inputs::Settings;
 use layout::{ANSWER, ELEMENTS, FACTS, INDEX, LISTS, MEMBERS, PLACES, RECORDS, ROWS};
 use one_document::Answer;
-use text::Fault;
-use type_stage::Stage;
+use pieces::Type;
+use text::Refusal;
+use type_judge::TypeFault;
+use type_stage::{Refused, Stage};
+use type_tables::TypeTables;
+
+// The documents of a batch: parts of one string, where each starts and how long it is, and its stretch of the buffer.
+#[derive(Clone, Copy)]
+struct Parts<'a> {
+    string: &'a [u8],
+    starts: &'a [usize],
+    lengths: &'a [usize],
+    froms: &'a [usize],
+    sizes: &'a [usize],
+}
 
 // The six numbers of the answer to the i-th document.
 fn put_answer(answers: &mut [u32], i: usize, a: Answer)
@@ -33,148 +46,101 @@ fn put_answer(answers: &mut [u32], i: usize, a: Answer)
 }
 
 // All documents in turn, by lists that are fit.
-fn read_parts(
-    g: Stage,
-    long: usize,
-    edition: usize,
-    s: &[u8],
-    string: &[u8],
-    starts: &[usize],
-    lengths: &[usize],
-    elements: &[u32; RECORDS],
-    index: &[u8; INDEX],
-    rows: &[u8; ROWS],
-    places: &[u8; PLACES],
-    facts: &[u8; FACTS],
-    members: &[u8],
-    lists: &[u16],
-    froms: &[usize],
-    sizes: &[usize],
-    bytes: &mut [u8],
-    answers: &mut [u32],
-)
-    requires ready { Ready (settings long edition) s.now elements.now index.now rows.now places.now facts.now members.now lists.now g }
-    requires fact { Unfit (batch_of starts.now lengths.now froms.now sizes.now) (length answers.old) (length bytes.old) → ⊥ }
-    ensures { AllRead Lent.bytes (settings long edition) s.now string.now (batch_of starts.now lengths.now froms.now sizes.now)
-        bytes.old answers.new bytes.new }
+fn read_parts(g: Stage, t: Type, p: Parts, bytes: &mut [u8], answers: &mut [u32])
+    requires ready { ReadyFor t g }
+    requires fact { Unfit (batch_of p.starts.now p.lengths.now p.froms.now p.sizes.now) (length answers.old) (length bytes.old) → ⊥ }
+    ensures { AllRead Lent.bytes (settings t.entry.long t.entry.edition) t.entry.file.now p.entry.string.now
+        (batch_of p.entry.starts.now p.entry.lengths.now p.entry.froms.now p.entry.sizes.now) bytes.old answers.new bytes.new }
 {
-    let mut i = 0;
-    while i < starts.len() {
-        let from = froms[i];
-        let end = from + sizes[i];
+    for i in 0..p.starts.len() {
+        let from = p.froms[i];
+        let end = from + p.sizes[i];
         let a = batch_parts::read_part(
             g,
-            long,
-            edition,
-            s,
-            string,
-            starts[i],
-            lengths[i],
-            elements,
-            index,
-            rows,
-            places,
-            facts,
-            members,
-            lists,
+            t,
+            p.string,
+            p.starts[i],
+            p.lengths[i],
             &mut bytes[from..end],
         );
         put_answer(answers, i, a);
-        i += 1;
     }
 }
 
-// The type file is judged, and where it is accepted its tables are filled, once for all documents. All of them are 0 before.
-fn prepared(
-    c: Settings,
-    s: &[u8],
-    elements: &mut [u32; RECORDS],
-    index: &mut [u8; INDEX],
-    rows: &mut [u8; ROWS],
-    places: &mut [u8; PLACES],
-    facts: &mut [u8; FACTS],
-    members: &mut [u8],
-    lists: &mut [u16],
-) -> Stage
-    requires lists_value { (lists.old ≡ replicate LISTS 0) × (index.old ≡ replicate INDEX 0) × (members.old ≡ replicate MEMBERS 0) }
-    requires rows_value { (rows.old ≡ replicate ROWS 0) × (places.old ≡ replicate PLACES 0) × (facts.old ≡ replicate FACTS 0) }
-    ensures { Ready (settings_of c) s.now elements.new index.new rows.new places.new facts.new members.new lists.new result }
+// The tables of a type, filled once for all documents.
+#[derive(Drop)]
+struct Tables {
+    elements: [u32; RECORDS],
+    index: [u8; INDEX],
+    rows: [u8; ROWS],
+    places: [u8; PLACES],
+    facts: [u8; FACTS],
+    members: [u8; MEMBERS],
+    lists: [u16; LISTS],
+}
+
+// The type file is judged, and where it is accepted its tables are filled. All of them are 0 before.
+fn prepared(c: Settings, s: &[u8], t: &mut Tables) -> Stage
+    requires lists_value { (t.old.lists ≡ replicate LISTS 0) × (t.old.index ≡ replicate INDEX 0) × (t.old.members ≡ replicate MEMBERS 0) }
+    requires rows_value { (t.old.rows ≡ replicate ROWS 0) × (t.old.places ≡ replicate PLACES 0) × (t.old.facts ≡ replicate FACTS 0) }
+    ensures { Ready (settings_of c) s.now t.new.elements t.new.index t.new.rows t.new.places t.new.facts t.new.members t.new.lists result }
 {
     let mut heads = [0u16; ELEMENTS];
-    let g = type_stage::judged(c, s, elements, &mut heads);
-    let Stage::Accepted(n) = g else {
-        return g;
-    };
+    let n = type_stage::judged(c, s, &mut t.elements, &mut heads)?;
     full_tables::fill(
         c.name_length,
         s,
-        elements,
+        &t.elements,
         &heads,
         n,
-        lists,
-        index,
-        rows,
-        places,
-        facts,
-        members,
+        &mut t.lists,
+        &mut t.index,
+        &mut t.rows,
+        &mut t.places,
+        &mut t.facts,
+        &mut t.members,
     );
-    g
+    Ok(n)
 }
 
 // The documents of a batch whose lists are fit, under what the type is judged to be.
-fn read_all(
-    c: Settings,
-    s: &[u8],
-    string: &[u8],
-    starts: &[usize],
-    lengths: &[usize],
-    froms: &[usize],
-    sizes: &[usize],
-    bytes: &mut [u8],
-    answers: &mut [u32],
-)
-    requires { Unfit (batch_of starts.now lengths.now froms.now sizes.now) (length answers.old) (length bytes.old) → ⊥ }
-    ensures { AllRead Lent.bytes (settings_of c) s.now string.now (batch_of starts.now lengths.now froms.now sizes.now)
-        bytes.old answers.new bytes.new }
+fn read_all(c: Settings, s: &[u8], p: Parts, bytes: &mut [u8], answers: &mut [u32])
+    requires { Unfit (batch_of p.starts.now p.lengths.now p.froms.now p.sizes.now) (length answers.old) (length bytes.old) → ⊥ }
+    ensures { AllRead Lent.bytes (settings_of c) s.now p.entry.string.now
+        (batch_of p.entry.starts.now p.entry.lengths.now p.entry.froms.now p.entry.sizes.now) bytes.old answers.new bytes.new }
 {
-    let mut elements = [0u32; RECORDS];
-    let mut index = [0u8; INDEX];
-    let mut rows = [0u8; ROWS];
-    let mut places = [0u8; PLACES];
-    let mut facts = [0u8; FACTS];
-    let mut members = [0u8; MEMBERS];
-    let mut lists = [0u16; LISTS];
-    let g = prepared(
-        c,
-        s,
-        &mut elements,
-        &mut index,
-        &mut rows,
-        &mut places,
-        &mut facts,
-        &mut members,
-        &mut lists,
-    );
-    read_parts(
-        g,
-        c.name_length,
-        c.edition,
-        s,
-        string,
-        starts,
-        lengths,
-        &elements,
-        &index,
-        &rows,
-        &places,
-        &facts,
-        &members,
-        &lists,
-        froms,
-        sizes,
-        bytes,
-        answers,
-    );
+    let mut t = Tables {
+        elements: [0; RECORDS],
+        index: [0; INDEX],
+        rows: [0; ROWS],
+        places: [0; PLACES],
+        facts: [0; FACTS],
+        members: [0; MEMBERS],
+        lists: [0; LISTS],
+    };
+    let g = prepared(c, s, &mut t);
+    let under = Type {
+        long: c.name_length,
+        edition: c.edition,
+        file: s,
+        elements: &t.elements,
+        index: &t.index,
+        tables: TypeTables {
+            rows: &t.rows,
+            places: &t.places,
+            facts: &t.facts,
+            members: &t.members,
+        },
+        lists: &t.lists,
+    };
+    read_parts(g, under, p, bytes, answers);
+}
+
+// The whole call is refused for its settings or its lists, as the type is, at 0.
+fn refused(why: Refusal) -> Refused
+    ensures { result ≡ refused_for why }
+{
+    Refused::InType(TypeFault::Malformed(why.at(0)))
 }
 
 // Reads the documents of a batch under a type file and the settings c: the parts of the string that start at `starts` and have these lengths, each into its
@@ -196,15 +162,22 @@ pub fn read_batch(
     ensures answer_fits { AnswerFits result }
 {
     if stretches::are_fit(starts, lengths, froms, sizes, answers.len(), bytes.len()) {
-        read_all(c, s, string, starts, lengths, froms, sizes, bytes, answers);
+        let p = Parts {
+            string,
+            starts,
+            lengths,
+            froms,
+            sizes,
+        };
+        read_all(c, s, p, bytes, answers);
         if inputs::is_offered(c) {
-            return Answer::Accepted(starts.len());
+            return Ok(starts.len());
         }
-        return Answer::InType(Fault { number: 24, at: 0 });
+        return Err(refused(Refusal::Settings));
     }
     bytes.fill(0);
     if inputs::is_offered(c) {
-        return Answer::InType(Fault { number: 23, at: 0 });
+        return Err(refused(Refusal::Batch));
     }
-    Answer::InType(Fault { number: 24, at: 0 })
+    Err(refused(Refusal::Settings))
 }

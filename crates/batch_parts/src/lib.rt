@@ -7,7 +7,7 @@ ghost use Rattle.rules.specs.Settings.{settings};
 ghost use Rattle.rules.specs.Batch.{PartAs};
 ghost use Rattle.one_document.specs.Answer.{answer_of, Answers};
 ghost use Rattle.answer_numbers.specs.Fits.{AnswerFits};
-ghost use Rattle.batch_parts.specs.Ready.{Ready};
+ghost use Rattle.batch_parts.specs.Ready.{ReadyFor};
 
 use one_document::Answer;
 use pieces::Type;
@@ -15,8 +15,7 @@ use type_stage::{Refused, Stage};
 
 // What the document d comes to under a type that is judged, and whose tables are filled if it is accepted. A refusal zeroes nothing yet.
 fn followed(g: Stage, t: Type, d: &[u8], bytes: &mut [u8]) -> Answer
-    requires { Ready (settings t.long t.edition) t.file.now t.elements.now t.index.now
-        t.tables.rows.now t.tables.places.now t.tables.facts.now t.tables.members.now t.lists.now g }
+    requires { ReadyFor t g }
     ensures { Answers (settings t.entry.long t.entry.edition) t.entry.file.now d.now [] [] bytes.old bytes.new result }
 {
     type_stage::in_order(g, d)?;
@@ -32,8 +31,7 @@ pub fn read_part(
     size: usize,
     bytes: &mut [u8],
 ) -> Answer
-    requires { Ready (settings t.long t.edition) t.file.now t.elements.now t.index.now
-        t.tables.rows.now t.tables.places.now t.tables.facts.now t.tables.members.now t.lists.now g }
+    requires { ReadyFor t g }
     ensures part_as { PartAs Lent.bytes (settings t.entry.long t.entry.edition) t.entry.file.now string.now start size
         bytes.old (answer_of result) bytes.new }
     ensures answer_fits { AnswerFits result }

@@ -47,9 +47,9 @@ judges_as c s d elements heads g (Err (InDocument f)) t h = h
 
 module _ (c : Settings) (s d numbers numbers_after bytes bytes_after : List ℕ) where
   -- What is refused before anything is read, as the judge and the order say it.
-  pub ordered_answers : (g : Result ℕ Stopped) (x : Refused) → OrderedAs c s d g (Err x) → Answers c s d numbers numbers_after bytes bytes_after (Err x)
-  ordered_answers g (InType x) h = h
-  ordered_answers g (InDocument f) h = h
+  pub ordered_answers : (g : Result ℕ Stopped) (x : Refused) (v : Result ℕ Refused) → OrderedAs c s d g (Err x) → v ≡ Err x → Answers c s d numbers numbers_after bytes bytes_after v
+  ordered_answers g (InType x) v h e = rw e h
+  ordered_answers g (InDocument f) v h e = rw e h
 
   pub judged_answers : (elements heads : List ℕ) (x : Refused) (v : Result ℕ Refused) → Judges c s d elements heads (Err x) → v ≡ Err x → Answers c s d numbers numbers_after bytes bytes_after v
   judged_answers elements heads x v h e = rw e h

@@ -11,8 +11,9 @@ ghost use Rattle.printed_text.specs.Accepted.{Accepted, ListedIn, EventsPut};
 use event_names::{Events, Names};
 use inputs::Settings;
 use layout::{ATTRIBUTE_RECORDS, PROGRAM_NAME_LENGTH, PROGRAM_ROOM, RECORDS};
-use one_document::Answer;
-use type_judge::Verdict;
+use text::Refusal;
+use type_judge::TypeFault;
+use type_stage::Refused;
 
 // What the program gives: names as long as it reads them, and the first edition.
 fn given() -> Settings
@@ -29,11 +30,10 @@ fn listed(s: &[u8], attributes: &mut [u32; ATTRIBUTE_RECORDS]) -> usize
     requires { Accepted s.now × (length attributes.old ≡ ATTRIBUTE_RECORDS) }
     ensures { ListedIn s.now attributes.new result }
 {
-    let v = attribute_records::list(given(), s, attributes);
-    match v {
-        Verdict::Accepted(t) => t,
-        Verdict::Malformed(_) => 0,
-        Verdict::Ambiguous(_) => 0,
+    match attribute_records::list(given(), s, attributes) {
+        Ok(t) => t,
+        // Never: the type is accepted, and its attributes have room.
+        Err(_) => 0,
     }
 }
 
@@ -63,11 +63,17 @@ pub fn printed(s: &[u8], d: &[u8], out: &mut [u8]) -> usize
     ensures { IsPrefixLen result out.new × Prints s.now d.now (take result out.new) }
 {
     let mut numbers = [0u32; PROGRAM_ROOM];
-    let a = document_reader::read(given(), s, d, &mut numbers);
-    match a {
-        Answer::Accepted(n) => put_events(out, s, &numbers, n),
-        Answer::InType(f) => event_lines::put_refusal(out, f.number, b"in type at ", f.at),
-        Answer::Ambiguous(c) => event_lines::put_refusal(out, 9, b"in type at ", c.at as usize),
-        Answer::InDocument(f) => event_lines::put_refusal(out, f.number, b"in document at ", f.at),
+    match document_reader::read(given(), s, d, &mut numbers) {
+        Ok(n) => put_events(out, s, &numbers, n),
+        Err(Refused::InType(TypeFault::Malformed(f))) => {
+            event_lines::put_refusal(out, f.number, b"in type at ", f.at)
+        }
+        Err(Refused::InType(TypeFault::Ambiguous(c))) => {
+            let number = Refusal::Ambiguous as u32;
+            event_lines::put_refusal(out, number, b"in type at ", c.at as usize)
+        }
+        Err(Refused::InDocument(f)) => {
+            event_lines::put_refusal(out, f.number, b"in document at ", f.at)
+        }
     }
 }

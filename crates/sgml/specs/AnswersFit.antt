@@ -1,5 +1,5 @@
 -- Laws of an answer: its numbers are 32-bit numbers.
-use Rattle.std.specs.Prelude.{ℕ, ◌≤◌, ◌*◌, ◌≡◌, List}
+use Rattle.std.specs.Prelude.{ℕ, ◌≤◌, ◌*◌, ◌≡◌, List, Result, Ok, Err, IsErrAnd, MatchResult}
 use Rattle.std.proofs.Common.{ap, arith}
 use Rattle.rules.specs.Settings.{Settings}
 use Rattle.rules.specs.Bytes.{ATTCNT, element_limit, type_limit}
@@ -11,8 +11,12 @@ use Rattle.type_laws.specs.Members.{type_file_repeated}
 use Rattle.type_laws.specs.Attributes.{type_file_attributes, attributes_count}
 use Rattle.answer_numbers.specs.Fits.{ambiguous_ordered}
 use Rattle.type_judge.specs.Decides.{answer_of}
-use Rattle.type_judge.specs.declared.Verdict.{Verdict}
-use Rattle.type_judge.specs.declared.Verdict.TheVariants.{Accepted, Malformed, Ambiguous}
+use Rattle.type_judge.specs.declared.TypeFault.{TypeFault}
+use Rattle.type_judge.specs.declared.TypeFault.TheVariants.{Malformed, Ambiguous}
+use Rattle.type_stage.specs.declared.Refused.{Refused}
+use Rattle.type_stage.specs.declared.Refused.TheVariants.{InType}
+use Rattle.one_document.specs.Answer as reader
+use Rattle.answer_numbers.specs.Fits.{AnswerFits}
 use Rattle.sgml.specs.Fits.{VerdictFits}
 
 malformed_in : (c : Settings) (s : List ℕ) (room n k : ℕ) → Refuses c s room (refusal n k 0 0) → k ≤ type_limit
@@ -42,10 +46,10 @@ judged_in : {l : Lent} {c : Settings} {s before after : List ℕ} {n k : ℕ} �
 judged_in {l} {c} {s} {n = n} {k} (Judged.refuses r z) = malformed_in c s _ n k r
 judged_in (Judged.accepts es w f e z) = absurd (omega (arith, ap (λ (a : Answer). a.input) e))
 
-pub verdict_fits : (l : Lent) (c : Settings) (s before after : List ℕ) (v : Verdict) → Judged l c s before (answer_of v) after → VerdictFits v
-verdict_fits l c s before after (Accepted n) h = let few = judged_count h in omega arith
-verdict_fits l c s before after (Malformed f) h = let i = judged_in h in omega arith
-verdict_fits l c s before after (Ambiguous x) h = tt
+pub verdict_fits : (l : Lent) (c : Settings) (s before after : List ℕ) (v : Result ℕ TypeFault) → Judged l c s before (answer_of v) after → VerdictFits v
+verdict_fits l c s before after (Ok n) h = let few = judged_count h in omega arith
+verdict_fits l c s before after (Err (Malformed f)) h = let i = judged_in h in omega arith
+verdict_fits l c s before after (Err (Ambiguous x)) h = tt
 
 -- The same for the list of attributes.
 listed_count : {l : Lent} {c : Settings} {s before after : List ℕ} {n : ℕ} → Lists l c s before (acceptance n) after → n ≤ ATTCNT * element_limit
@@ -60,7 +64,15 @@ listed_in {l} {c} {s} {n = n} {k} (Lists.refuses r z) = malformed_in c s _ n k r
 listed_in (Lists.no_room es w h e z) = omega (arith, ap (λ (a : Answer). a.position) e)
 listed_in (Lists.accepts es w f e z) = absurd (omega (arith, ap (λ (a : Answer). a.input) e))
 
-pub listed_fits : (l : Lent) (c : Settings) (s before after : List ℕ) (v : Verdict) → Lists l c s before (answer_of v) after → VerdictFits v
-listed_fits l c s before after (Accepted n) h = let few = listed_count h in omega arith
-listed_fits l c s before after (Malformed f) h = let i = listed_in h in omega arith
-listed_fits l c s before after (Ambiguous x) h = tt
+pub listed_fits : (l : Lent) (c : Settings) (s before after : List ℕ) (v : Result ℕ TypeFault) → Lists l c s before (answer_of v) after → VerdictFits v
+listed_fits l c s before after (Ok n) h = let few = listed_count h in omega arith
+listed_fits l c s before after (Err (Malformed f)) h = let i = listed_in h in omega arith
+listed_fits l c s before after (Err (Ambiguous x)) h = tt
+
+-- The judge's answer as the reader gives it: it fits and has the same numbers.
+module _ (v : Result ℕ TypeFault) (a : Result ℕ Refused) (e : MatchResult v (λ n. a ≡ Ok n) (λ x. IsErrAnd a (λ y. y ≡ InType x))) where
+  pub given_fits : VerdictFits v → AnswerFits a
+  given_fits h = ?
+
+  pub given_same : reader.answer_of a ≡ answer_of v
+  given_same = ?

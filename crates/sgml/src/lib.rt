@@ -13,6 +13,7 @@ ghost use Rattle.sgml.specs.Fits.{VerdictFits};
 use inputs::Settings;
 use layout::ANSWER;
 use type_judge::Verdict;
+use type_stage::Refused;
 
 // The settings of a call for C.
 fn chosen(name_length: u32, edition: u32) -> Settings
@@ -29,11 +30,7 @@ fn numbers_of(v: Verdict) -> [u32; ANSWER]
     requires { VerdictFits v }
     ensures { result ≡ answer_numbers (answer_of v) }
 {
-    match v {
-        Verdict::Accepted(n) => [0, 0, 0, 0, 0, n as u32],
-        Verdict::Malformed(f) => [f.number, 1, f.at as u32, 0, 0, 0],
-        Verdict::Ambiguous(c) => [9, 1, c.at, c.first, c.second, 0],
-    }
+    answer_numbers::numbers_read(v.map_err(Refused::InType))
 }
 
 // The type judge for C. `name_length` is how long a name may be, `edition` by which rule record ends are read, which no type asks; `buffer`

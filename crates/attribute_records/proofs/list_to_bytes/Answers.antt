@@ -4,14 +4,14 @@ use Rattle.inputs.specs.Checks.{settings_of}
 use Rattle.attribute_records.specs.Decided.{listed_accepts, listed_refuses, zeroed_kept}
 use Rattle.attribute_records.proofs.list_to_bytes.Goals as goal
 
-pub returns-in-Accepted : goal.returns-in-Accepted
-returns-in-Accepted c =
+pub returns-then-is_err : goal.returns-then-is_err
+returns-then-is_err c =
     let a = c.args in
     let d = c.decide-v in
-    listed_accepts bytes (settings_of a.c) a.s.now _ _ _ _ d.result d.ensures _ c.in-Accepted.is
+    listed_refuses bytes (settings_of a.c) a.s.now _ _ _ _ d.result d.ensures _ ? (zeroed_kept a.buffer.now d.new.bytes d.auto.bytes (c.fill.ensures.after (λ y e. e)))
 
-pub returns : goal.returns
-returns c =
+pub returns-else-is_err : goal.returns-else-is_err
+returns-else-is_err c =
     let a = c.args in
     let d = c.decide-v in
-    listed_refuses bytes (settings_of a.c) a.s.now _ _ _ _ d.result d.ensures _ c.in_default.not-Accepted (zeroed_kept a.buffer.now d.new.bytes d.auto.bytes (c.fill.ensures.after (λ y e. e)))
+    listed_accepts bytes (settings_of a.c) a.s.now _ _ _ _ d.result d.ensures ?

@@ -1,10 +1,6 @@
 -- `put_list` puts the records of one list. The invariant: the first of them stand in the buffers.
-use Prim.Native.Nat.{◌-◌, ◌≤◌}
 use Rattle.attribute_records.specs.ListByList.{ListSoFar}
 use Rattle.attribute_records.proofs.put_list.Given as goal
 
 abbrev pub invariant-loop-a : goal.invariant-loop-a
-invariant-loop-a l = ListSoFar l.lists l.e l.initial.numbers l.initial.bytes l.n l.numbers l.bytes l.a × (l.a ≤ l.count)
-
-abbrev pub decreases-loop-a : goal.decreases-loop-a
-decreases-loop-a l = l.count - l.a
+invariant-loop-a l = ListSoFar l.lists l.e l.initial.numbers l.initial.bytes l.n l.numbers l.bytes l.a

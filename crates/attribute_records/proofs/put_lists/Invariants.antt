@@ -1,11 +1,8 @@
 -- `put_lists` puts the records of all lists. The invariant: those of the first elements stand in the buffers.
-use Prim.Native.Nat.{◌-◌, ◌*◌, ◌≤◌}
+use Prim.Native.Nat.{◌*◌, ◌≤◌}
 use Rattle.rules.specs.Bytes.{ATTCNT}
 use Rattle.attribute_records.specs.ListByList.{ListsSoFar}
 use Rattle.attribute_records.proofs.put_lists.Given as goal
 
 abbrev pub invariant-loop-k : goal.invariant-loop-k
-invariant-loop-k l = ListsSoFar l.lists l.initial.numbers l.initial.bytes l.numbers l.bytes l.k l.m × (l.k ≤ l.n) × (l.m ≤ ATTCNT * l.k)
-
-abbrev pub decreases-loop-k : goal.decreases-loop-k
-decreases-loop-k l = l.n - l.k
+invariant-loop-k l = ListsSoFar l.lists l.initial.numbers l.initial.bytes l.numbers l.bytes l.k l.m × (l.m ≤ ATTCNT * l.k)

@@ -2,41 +2,25 @@
 use mathlib.Core.List.{[]}
 use Rattle.rules.specs.Settings.{settings}
 use Rattle.rules_laws.specs.Offered.{offered_range}
-use Rattle.one_document.specs.Answering.{answers_events, answers_unsettled}
-use Rattle.batch_parts.specs.Ready.{follows_type, follows_ambiguous, follows_document, tables_full}
+use Rattle.type_judge.specs.Deciding.{raised}
+use Rattle.one_document.specs.Answering.{ordered_answers, followed_answers}
+use Rattle.batch_parts.specs.Ready.{tables_full}
 use Rattle.batch_parts.proofs.followed.Goals as goal
 
-pub returns-in-InType : goal.returns-in-InType
-returns-in-InType c =
-    let a = c.args in
-    follows_type _ _ _ [] [] _ c.in_order-o.result (c.in_order-o.ensures (settings a.long a.edition) a.s.now a.elements.now c.requires.heads c.requires.staged) _ c.in-InType.is
+pub returns-in_err-in_order : goal.returns-in_err-in_order
+returns-in_err-in_order c =
+    let t = c.args.t in
+    ordered_answers (settings t.long t.edition) t.file.now c.args.d.now [] [] _ _ c.args.g _ _ (c.in_err-in_order.ensures (settings t.long t.edition) t.file.now t.elements.now c.requires.heads c.requires.staged) (raised _ c.from_residual.ensures.1)
 
-pub returns-in-Ambiguous : goal.returns-in-Ambiguous
-returns-in-Ambiguous c =
-    let a = c.args in
-    follows_ambiguous _ _ _ [] [] _ c.in_order-o.result (c.in_order-o.ensures (settings a.long a.edition) a.s.now a.elements.now c.requires.heads c.requires.staged) _ c.in-Ambiguous.is
-
-pub returns-in-InDocument : goal.returns-in-InDocument
-returns-in-InDocument c =
-    let a = c.args in
-    follows_document _ _ _ [] [] _ c.in_order-o.result (c.in_order-o.ensures (settings a.long a.edition) a.s.now a.elements.now c.requires.heads c.requires.staged) _ c.in-InDocument.is
-
-pub follow-r-requires : goal.follow-r-requires
-follow-r-requires c =
-    let a = c.args in
-    let (b, e) = c.in-Read.ensures (settings a.long a.edition) a.s.now a.elements.now c.requires.heads c.requires.staged in
+pub follow-requires : goal.follow-requires
+follow-requires c =
+    let t = c.args.t in
+    let (b, e) = c.in_ok-in_order.ensures (settings t.long t.edition) t.file.now t.elements.now c.requires.heads c.requires.staged in
     ((offered_range _ b.type.offered).1, b.short, b.type.short)
 
-pub returns-in-Events : goal.returns-in-Events
-returns-in-Events c =
-    let a = c.args in
-    let (b, e) = c.in-Read.ensures (settings a.long a.edition) a.s.now a.elements.now c.requires.heads c.requires.staged in
-    let (es, w, i, t, l) = tables_full _ c.requires e in
-    answers_events _ _ _ _ _ _ _ es b w c.follow-r.result (c.follow-r.ensures es i t l) _ c.in-Events.is
-
-pub returns-in-Refused : goal.returns-in-Refused
-returns-in-Refused c =
-    let a = c.args in
-    let (b, e) = c.in-Read.ensures (settings a.long a.edition) a.s.now a.elements.now c.requires.heads c.requires.staged in
-    let (es, w, i, t, l) = tables_full _ c.requires e in
-    answers_unsettled _ _ _ [] [] a.bytes.now c.follow-r.new.bytes es b w c.follow-r.result (c.follow-r.ensures es i t l) _ c.in-Refused.is
+pub returns : goal.returns
+returns c =
+    let t = c.args.t in
+    let (b, e) = c.in_ok-in_order.ensures (settings t.long t.edition) t.file.now t.elements.now c.requires.heads c.requires.staged in
+    let (es, w, i, x, l) = tables_full _ c.requires e in
+    followed_answers (settings t.long t.edition) t.file.now c.args.d.now [] [] c.args.bytes.now c.follow.new.bytes b c.follow.result c.map_err.result (es, w, c.follow.ensures es i x l) c.map_err.ensures.cases

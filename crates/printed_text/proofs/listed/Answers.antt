@@ -4,17 +4,12 @@ use Rattle.type_judge.specs.Decides.{answer_of}
 use Rattle.printed_text.specs.Listed.{listed_given, listed_in, listed_not}
 use Rattle.printed_text.proofs.listed.Goals as goal
 
-pub returns-in-Accepted : goal.returns-in-Accepted
-returns-in-Accepted c =
+pub returns-in-Ok : goal.returns-in-Ok
+returns-in-Ok c =
     let (es, accepted) = c.requires.0 in
-    listed_in _ _ c.requires.1 es accepted (listed_given c.given.ensures c.list-v.ensures) _ (ap answer_of c.in-Accepted.is)
+    listed_in _ _ c.requires.1 es accepted (listed_given c.given.ensures c.list.ensures) _ (ap answer_of c.in-Ok.is)
 
-pub returns-in-Malformed : goal.returns-in-Malformed
-returns-in-Malformed c =
+pub returns-in-Err : goal.returns-in-Err
+returns-in-Err c =
     let (es, accepted) = c.requires.0 in
-    absurd (listed_not _ _ c.requires.1 es accepted (listed_given c.given.ensures c.list-v.ensures) (ap answer_of c.in-Malformed.is) (omega arith))
-
-pub returns-in-Ambiguous : goal.returns-in-Ambiguous
-returns-in-Ambiguous c =
-    let (es, accepted) = c.requires.0 in
-    absurd (listed_not _ _ c.requires.1 es accepted (listed_given c.given.ensures c.list-v.ensures) (ap answer_of c.in-Ambiguous.is) (omega arith))
+    absurd (listed_not _ _ c.requires.1 es accepted (listed_given c.given.ensures c.list.ensures) (ap answer_of c.in-Err.is) ?)
