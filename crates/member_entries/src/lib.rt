@@ -38,7 +38,6 @@ fn mark(table: &[u8; MODEL], u: usize, w: usize, h: usize) -> u8
     requires h_bound { h < POSITIONS }
     ensures { result ≡ marked table.now u w h }
 {
-    model_links::whole(*table);
     let i = u * MODEL_ROW + w;
     if i < MODEL {
         if table[i] == 1 {

@@ -4,16 +4,11 @@
 // that can end one, the last column with the required place.
 #![tactic(auto)]
 
-ghost use Rattle.std.specs.Prelude.{◌≡◌, ◌≤◌, ◌<◌, length};
-ghost use Rattle.layout.specs.Sizes.{MODEL, POSITIONS};
+ghost use Rattle.std.specs.Prelude.{◌≡◌, ◌≤◌, ◌<◌};
+ghost use Rattle.layout.specs.Sizes.{POSITIONS};
 ghost use Rattle.model_links.specs.Links.{link_cell, link_row, link_from, link, settle_row, settle, clear_row, unbegin};
 
 use layout::{MODEL, MODEL_ROW, POSITIONS};
-
-// A table has this many numbers, which a reference to it does not say.
-pub fn whole(table: [u8; MODEL])
-    ensures { length table ≡ MODEL }
-{}
 
 // The place p may come after u if it can begin the group.
 fn link_cell(table: &mut [u8; MODEL], u: usize, p: usize)
