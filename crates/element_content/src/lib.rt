@@ -105,9 +105,9 @@ fn body_model(
         model: Some(Model {
             tokens: m.tokens,
             places: m.places,
-            code: numbers::short(m.code),
+            code: usize::from(m.code),
             and: m.and != 0,
-            repeated: place(numbers::short(m.repeated)),
+            repeated: place(usize::from(m.repeated)),
         }),
         at: m.at,
     })

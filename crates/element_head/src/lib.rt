@@ -4,11 +4,11 @@
 ghost use Rattle.std.specs.Prelude.{◌≡◌, List, ◌≤◌, ◌<◌, length};
 ghost use Rattle.rules.specs.TypeFile.{omission, words, head};
 ghost use Rattle.rules.specs.TypeFile as rules;
-ghost use Rattle.rules.specs.Bytes.{element_limit, type_limit};
+ghost use Rattle.rules.specs.Bytes.{type_limit};
 ghost use Rattle.element_names.specs.Names.{Recorded};
 ghost use Rattle.element_head.specs.Heads.{omission_of, head_of, HeadIn};
 
-use layout::RECORDS;
+use element_names::Declared;
 use text::{Reading, Refusal};
 
 // What stands before the content: where the name stands, whether the start tag and the end tag may be omitted, where reading goes on.
@@ -55,21 +55,15 @@ fn omission_at(long: usize, s: &[u8], from: usize, i: usize) -> Reading<Word>
     Err(Refusal::Malformed.at(i))
 }
 
-// From the end of the keyword to the second word. Where `elements` holds no records of elements, the answer is not decided, but for its range.
-pub fn head_at(
-    long: usize,
-    s: &[u8],
-    at: usize,
-    elements: &[u32; RECORDS],
-    count: usize,
-) -> Reading<Head>
-    requires { (at ≤ length s.now) × (length s.now ≤ type_limit) × (count ≤ element_limit) }
-    ensures result_value { (es : List rules.Element) → length es ≡ count → Recorded elements.now es →
+// From the end of the keyword to the second word. Where the table holds no records of elements, the answer is not decided, but for its range.
+pub fn head_at(long: usize, s: &[u8], at: usize, d: Declared) -> Reading<Head>
+    requires { (at ≤ length s.now) × (length s.now ≤ type_limit) }
+    ensures result_value { (es : List rules.Element) → length es ≡ d.entry.count → Recorded d.entry.records.now es →
         head_of result ≡ head long s.now at es }
-    ensures head_in { HeadIn long (length s.now) at count result }
+    ensures head_in { HeadIn long (length s.now) at d.entry.count result }
 {
     let i = gaps::gap_end(s, at)?;
-    let e = element_names::element_name(long, s, i, elements, count)?;
+    let e = element_names::element_name(long, s, i, d)?;
     words_at(long, s, i, e)
 }
 

@@ -12,6 +12,7 @@ ghost use Rattle.element_reader.specs.Keeps.{MeetsElement, ElementIn};
 
 use element_content::Model;
 use element_head::Head;
+use element_names::Declared;
 use layout::{MODEL, NAMES, RECORDS};
 use text::{Reading, Refusal};
 
@@ -87,6 +88,10 @@ pub fn element_at(
         MeetsElement (length s.now) at names.new table.new es result (element long s.now at es) }
     ensures element_in { ElementIn count result }
 {
-    let h = element_head::head_at(long, s, at, elements, count)?;
+    let d = Declared {
+        records: elements,
+        count: count,
+    };
+    let h = element_head::head_at(long, s, at, d)?;
     rest_at(long, s, h, names, table)
 }

@@ -36,4 +36,4 @@ returns c =
     let kept = c.with_occurrence-m.ensures _ r.new.names _ 0 model.0 model.2 in
     body_meets (length a.s.now) r.new.names c.finish.new.table _ _ _ (model_got a.long a.s.now a.i model.1)
     (model_kept kept (model_plain a.long a.s.now a.i c.requires.0 model.0 model.1) (model_guarded a.long a.s.now a.i c.requires.0 model.0 model.1) c.clear.ensures
-    _ _ _ c.finish.ensures c.short.ensures.0 (λ e. eqb-true _ _ (not-false _ e)) (c.place.ensures ∙ ap place c.short-2.ensures.0))
+    _ _ _ c.finish.ensures c.from.ensures (λ e. eqb-true _ _ (not-false _ e)) (c.place.ensures ∙ ap place c.from-2.ensures))

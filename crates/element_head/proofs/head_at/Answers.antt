@@ -12,7 +12,7 @@ returns-in_err-i-clause-result_value c es n r =
     ap head_of (passed_on _ c.from_residual.ensures.1) ∙ sym (head_gap a.long a.s.now a.at es (sym c.in_err-i.ensures))
 
 pub element_name-requires : goal.element_name-requires
-element_name-requires c = ((gap_range c.args.s.now c.args.at _ c.requires.0 (sym c.in_ok-i.ensures)).1, c.requires.1, c.requires.2)
+element_name-requires c = ((gap_range c.args.s.now c.args.at _ c.requires.0 (sym c.in_ok-i.ensures)).1, c.requires.1)
 
 pub returns-in_err-e-clause-result_value : goal.returns-in_err-e-clause-result_value
 returns-in_err-e-clause-result_value c es n r =
@@ -29,5 +29,5 @@ returns c =
     let name = c.in_ok-e.ensures.name_in in
     record {
       result_value = λ es n r. c.words_at.ensures ∙ sym (head_words a.long a.s.now a.at es (sym c.in_ok-i.ensures) (sym (c.in_ok-e.ensures.result_value es n r)));
-      head_in = head_in_lem a.long a.s.now _ _ a.at a.count c.words_at.result c.words_at.ensures gap_in name.0 name.1 name.2 name.3;
+      head_in = head_in_lem a.long a.s.now _ _ a.at a.d.count c.words_at.result c.words_at.ensures gap_in name.0 name.1 name.2 name.3;
     }
