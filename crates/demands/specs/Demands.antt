@@ -2,7 +2,7 @@
 -- the rules of crates/rules. `JudgeKeeps` and `ReaderKeeps` say what the demands ask of an answer and of what the lent buffer holds
 -- after; the theorems on the calls, further below, say that each call of the source gives just that. That it ends and stays in its buffers is checked with its
 -- contract. Meets says the same of the routines of both calls for C.
-use Rattle.std.specs.Prelude.{ℕ, ◌-◌, ◌*◌, ◌<◌, ◌≤◌, ◌≡◌, true, false, ◌↔◌, List, [], ◌∷◌, ◌++◌, length}
+use Rattle.std.specs.Prelude.{ℕ, Result, ◌-◌, ◌*◌, ◌<◌, ◌≤◌, ◌≡◌, true, false, ◌↔◌, List, [], ◌∷◌, ◌++◌, length}
 use Rattle.std.proofs.Common.{sym, ◌∙◌, ap}
 use contract.Lifetimes.{Lfts}
 use Rattle.std.specs.Borrow.{Bor}
@@ -39,13 +39,13 @@ use Rattle.demands.specs.Kept as kept
 use Rattle.demands.specs.Batches.{BatchKeeps, batch_keeps}
 use Rattle.stretches.specs.Fit.{batch_of}
 use Rattle.inputs.specs.Checks.{settings_of}
-use Rattle.type_judge.specs.declared.Verdict.{Verdict}
+use Rattle.type_judge.specs.declared.TypeFault.{TypeFault}
 use Rattle.type_judge.specs.Decides as verdict
 use Rattle.type_judge.specs.contracts.judge as judge_call
 use Rattle.type_judge.proofs.judge.Reads as judge_reads
 use Rattle.type_judge.specs.contracts.judge_to_bytes as judge_bytes
 use Rattle.type_judge.proofs.judge_to_bytes.Reads as judge_bytes_reads
-use Rattle.one_document.specs.declared.Answer as reader
+use Rattle.type_stage.specs.declared.Refused.{Refused}
 use Rattle.one_document.specs.Answer as means
 use Rattle.document_reader.specs.contracts.read as read_call
 use Rattle.document_reader.proofs.read.Reads as read_reads
@@ -216,19 +216,19 @@ sgml_read_batch κs a r e (answer, returned, numbers, batched) = record { answer
 
 -- What Rattle callers get: `judge` with a lent buffer of numbers, `judge_to_bytes` with one of bytes, and the reader likewise. `answer_of`, beside the
 -- code of each, has the paper's numbers for each case of what it returns.
-pub judge : (κs : Lfts 2) (a : ArgsD judge_call.signature κs) (r : Verdict) (e : AtExit judge_call.ended κs) → judge_reads.Learnt κs a r e
+pub judge : (κs : Lfts 2) (a : ArgsD judge_call.signature κs) (r : Result ℕ TypeFault) (e : AtExit judge_call.ended κs) → judge_reads.Learnt κs a r e
     → JudgeKeeps Lent.numbers (settings_of a.0) a.1.0.now a.1.1.0.now (verdict.answer_of r) e.1.1.0.now
 judge κs a r e judged = judge_keeps Lent.numbers _ _ _ _ _ judged
 
-pub judge_to_bytes : (κs : Lfts 2) (a : ArgsD judge_bytes.signature κs) (r : Verdict) (e : AtExit judge_bytes.ended κs) → judge_bytes_reads.Learnt κs a r e
+pub judge_to_bytes : (κs : Lfts 2) (a : ArgsD judge_bytes.signature κs) (r : Result ℕ TypeFault) (e : AtExit judge_bytes.ended κs) → judge_bytes_reads.Learnt κs a r e
     → JudgeKeeps Lent.bytes (settings_of a.0) a.1.0.now a.1.1.0.now (verdict.answer_of r) e.1.1.0.now
 judge_to_bytes κs a r e judged = judge_keeps Lent.bytes _ _ _ _ _ judged
 
-pub read : (κs : Lfts 3) (a : ArgsD read_call.signature κs) (r : reader.Answer) (e : AtExit read_call.ended κs) → read_reads.Learnt κs a r e
+pub read : (κs : Lfts 3) (a : ArgsD read_call.signature κs) (r : Result ℕ Refused) (e : AtExit read_call.ended κs) → read_reads.Learnt κs a r e
     → ReaderKeeps Lent.numbers (settings_of a.0) a.1.0.now a.1.1.0.now a.1.1.1.0.now (means.answer_of r) e.1.1.1.0.now
 read κs a r e (as_read, fits) = reader_keeps Lent.numbers _ _ _ _ _ _ as_read
 
-pub read_to_bytes : (κs : Lfts 3) (a : ArgsD read_bytes.signature κs) (r : reader.Answer) (e : AtExit read_bytes.ended κs) → read_bytes_reads.Learnt κs a r e
+pub read_to_bytes : (κs : Lfts 3) (a : ArgsD read_bytes.signature κs) (r : Result ℕ Refused) (e : AtExit read_bytes.ended κs) → read_bytes_reads.Learnt κs a r e
     → ReaderKeeps Lent.bytes (settings_of a.0) a.1.0.now a.1.1.0.now a.1.1.1.0.now (means.answer_of r) e.1.1.1.0.now
 read_to_bytes κs a r e (as_read, fits) = reader_keeps Lent.bytes _ _ _ _ _ _ as_read
 
@@ -238,11 +238,11 @@ pub sgml_attributes : (κs : Lfts 3) (a : ArgsD c_attributes.signature κs) (r :
     → ListedNumbers (settings a.1.1.1.0 a.1.1.1.1.0) a.0.now a.1.0.now r e.1.1.0.now e.1.0.now
 sgml_attributes κs a r e listed = listed
 
-pub list : (κs : Lfts 2) (a : ArgsD list_call.signature κs) (r : Verdict) (e : AtExit list_call.ended κs) → list_reads.Learnt κs a r e
+pub list : (κs : Lfts 2) (a : ArgsD list_call.signature κs) (r : Result ℕ TypeFault) (e : AtExit list_call.ended κs) → list_reads.Learnt κs a r e
     → Lists Lent.numbers (settings_of a.0) a.1.0.now a.1.1.0.now (verdict.answer_of r) e.1.1.0.now
 list κs a r e listed = listed
 
-pub list_to_bytes : (κs : Lfts 2) (a : ArgsD list_bytes.signature κs) (r : Verdict) (e : AtExit list_bytes.ended κs) → list_bytes_reads.Learnt κs a r e
+pub list_to_bytes : (κs : Lfts 2) (a : ArgsD list_bytes.signature κs) (r : Result ℕ TypeFault) (e : AtExit list_bytes.ended κs) → list_bytes_reads.Learnt κs a r e
     → Lists Lent.bytes (settings_of a.0) a.1.0.now a.1.1.0.now (verdict.answer_of r) e.1.1.0.now
 list_to_bytes κs a r e listed = listed
 

@@ -1,7 +1,7 @@
 -- The open elements of the program, at every step of settling and closing: demand 1, "keeps between 0 and 24 elements open", and paper 02, request four,
 -- "Store the mark, and the required place if there is one, with each open element. At every moment both must equal what 01's definition says of
 -- the places taken." The hypotheses are the contracts as they stand in the source, as on the page of the calls: `Asked` is what a function requires.
-use Rattle.std.specs.Prelude.{ℕ, suc, ◌≤◌, ◌<◌, ◌≡◌, refl, Bool, true, false, ◌&&◌, List, [], ◌∷◌, ◌++◌, length, eqb}
+use Rattle.std.specs.Prelude.{ℕ, suc, Result, Ok, Err, ◌≤◌, ◌<◌, ◌≡◌, refl, Bool, true, false, ◌&&◌, List, [], ◌∷◌, ◌++◌, length, eqb}
 use Rattle.std.proofs.Common.{sym, ◌∙◌, ap, ap₂, subst, arith}
 use contract.Lifetimes.{Lfts}
 use denote.Triple.Clauses.{AtExit}
@@ -28,6 +28,7 @@ use Rattle.type_tables.specs.Tables.{Tables}
 use Rattle.layout.specs.declared.ElementNo.{ElementNo}
 use Rattle.layout.specs.declared.Place as typed
 use Rattle.open_elements.specs.declared.OpenElements.{OpenElements}
+use Rattle.text.specs.declared.Refusal.{Refusal}
 use Rattle.open_elements.specs.declared.Outcome.{Outcome}
 use Rattle.open_elements.specs.Stands.{fresh, opening, Ranged, Stands, Taking}
 use Rattle.open_elements.specs.Marks.{AllSay}
@@ -44,7 +45,7 @@ use Rattle.open_elements.specs.contracts.OpenElements.infer_end as infer_end_her
 use Rattle.open_elements.proofs.OpenElements.infer_end.Reads as infer_end_reads
 use Rattle.open_elements.specs.contracts.OpenElements.end as end
 use Rattle.open_elements.proofs.OpenElements.end.Reads as end_reads
-use Rattle.left_out_ends.specs.Until.{infer_ends}
+use Rattle.left_out_ends.specs.Until.{infer_ends, Until}
 use Rattle.left_out_ends.specs.contracts.end_until as end_until_here
 use Rattle.left_out_ends.proofs.end_until.Reads as end_until_reads
 use Rattle.ways.specs.declared.Way.TheVariants.{Taken, Inferred, Stuck}
@@ -74,6 +75,7 @@ use Rattle.closing.specs.contracts.end_tag as end_tag_lem
 use Rattle.closing.proofs.end_tag.Reads as end_tag_reads
 use Rattle.closing.specs.contracts.finish as finish
 use Rattle.closing.proofs.finish.Reads as finish_reads
+use Rattle.closing.specs.Closed.{Tagged, Finished}
 use Rattle.moments.specs.Moment.{Moment, Does, Asks, Beside, Leads}
 use Rattle.moments.specs.Beside.{moment_first, moment_noted, moment_parent, moment_ended, moment_entered, complete_kept, required_kept, moment_took, moment_started, moment_act, moment_asks}
 use Rattle.moments.specs.Results.{passes_beside, document_beside, reaches_leads, steps_lead, steps_data, tagged_leads}
@@ -91,17 +93,17 @@ keeps_few h = (h.few, h.whole)
 pub new_few : (κs : Lfts 0) (a : ArgsD new.signature κs) (r : OpenElements) (e : AtExit new.ended κs) → new_reads.Learnt κs a r e → KeepsFew r
 new_few κs a r e made = keeps_few (subst Ranged (sym made) ranged_fresh)
 
-pub take_few : (κs : Lfts 3) (a : ArgsD take.signature κs) (r : OpenElements) (e : AtExit take.ended κs) → take_reads.Asked κs a → take_reads.Learnt κs a r e → KeepsFew a.0 × KeepsFew r
+pub take_few : (κs : Lfts 2) (a : ArgsD take.signature κs) (r : OpenElements) (e : AtExit take.ended κs) → take_reads.Asked κs a → take_reads.Learnt κs a r e → KeepsFew a.0 × KeepsFew r
 take_few κs a r e asked made = (keeps_few asked.0, keeps_few (ranged_taking made asked.0 asked.1))
 
 pub start_few : (κs : Lfts 1) (a : ArgsD start.signature κs) (r : OpenElements) (e : AtExit start.ended κs) → start_reads.Asked κs a → start_reads.Learnt κs a r e → KeepsFew a.0 × KeepsFew r
 start_few κs a r e asked made = (keeps_few asked.0, keeps_few (subst Ranged (sym made) (ranged_opening a.1.0.now a.1.1.0.0 asked.0 asked.1 asked.2)))
 
-pub start_required_few : (κs : Lfts 3) (a : ArgsD start_required.signature κs) (r : OpenElements) (e : AtExit start_required.ended κs) → start_required_reads.Asked κs a → start_required_reads.Learnt κs a r e → KeepsFew a.0 × KeepsFew r
+pub start_required_few : (κs : Lfts 2) (a : ArgsD start_required.signature κs) (r : OpenElements) (e : AtExit start_required.ended κs) → start_required_reads.Asked κs a → start_required_reads.Learnt κs a r e → KeepsFew a.0 × KeepsFew r
 start_required_few κs a r e asked made =
     let taken = ranged_taking made.taking asked.0 asked.0.required in
     let less : made.taken.count < TAGLVL = omega (arith, made.taking.count, asked.1) in
-    (keeps_few asked.0, keeps_few (subst Ranged (sym made.opens) (ranged_opening a.1.0.now a.1.1.1.1.0.0 taken less asked.2)))
+    (keeps_few asked.0, keeps_few (subst Ranged (sym made.opens) (ranged_opening a.1.0.rows.now a.1.1.1.0.0 taken less asked.2)))
 
 pub infer_end_few : (κs : Lfts 0) (a : ArgsD infer_end_here.signature κs) (r : OpenElements) (e : AtExit infer_end_here.ended κs) → infer_end_reads.Asked κs a → infer_end_reads.Learnt κs a r e → KeepsFew a.0 × KeepsFew r
 infer_end_few κs a r e asked made = (keeps_few asked.0, keeps_few (subst Ranged (sym made) (ranged_ended asked.0 asked.1)))
@@ -109,25 +111,38 @@ infer_end_few κs a r e asked made = (keeps_few asked.0, keeps_few (subst Ranged
 pub end_few : (κs : Lfts 0) (a : ArgsD end.signature κs) (r : OpenElements) (e : AtExit end.ended κs) → end_reads.Asked κs a → end_reads.Learnt κs a r e → KeepsFew a.0 × KeepsFew r
 end_few κs a r e asked made = (keeps_few asked.0, keeps_few (subst Ranged (sym made) (ranged_ended asked.0 asked.1)))
 
--- So are those that the steps of a start tag or data, an end tag and the document's end are handed and hand back, where they refuse as well.
-pub ends_few : (κs : Lfts 7) (a : ArgsD step_ends.signature κs) (r : Stop) (e : AtExit step_ends.ended κs) → step_ends_reads.Asked κs a → step_ends_reads.Learnt κs a r e → KeepsFew a.1.1.1.1.1.0 × KeepsFew r.open
+-- What each of these promises of what it hands back, be it refused or not.
+abbrev PlacedSo : (κs : Lfts 4) (a : ArgsD place.signature κs) (e : AtExit place.ended κs) → Result Outcome Refusal → Type 0
+PlacedSo κs a e r = Placed a.0.rows.now a.0.places.now a.0.facts.now a.0.members.now a.1.0.now a.1.1.1.0 a.1.1.1.1.0.0 a.1.1.1.1.1.0 a.1.1.1.1.1.1.0 a.1.1.1.1.1.1.1.0 a.1.1.0 a.1.1.1.1.1.1.1.1.0.now a.1.1.1.1.1.1.1.1.1.0.now r e.1.0.now e.1.1.1.1.1.1.1.1.0.now e.1.1.1.1.1.1.1.1.1.0.now
+
+abbrev TaggedSo : (κs : Lfts 3) (a : ArgsD end_tag_lem.signature κs) (e : AtExit end_tag_lem.ended κs) → Result Outcome Refusal → Type 0
+TaggedSo κs a e r = Tagged a.0.now a.1.1.0.0 a.1.1.1.0 a.1.1.1.1.0 a.1.1.1.1.1.0 a.1.0 a.1.1.1.1.1.1.0.now a.1.1.1.1.1.1.1.0.now r e.1.1.1.1.1.1.0.now e.1.1.1.1.1.1.1.0.now
+
+abbrev FinishedSo : (κs : Lfts 3) (a : ArgsD finish.signature κs) (e : AtExit finish.ended κs) → Result Outcome Refusal → Type 0
+FinishedSo κs a e r = Finished a.0.now a.1.1.0 a.1.1.1.0 a.1.0 a.1.1.1.1.0.now a.1.1.1.1.1.0.now r e.1.1.1.1.0.now e.1.1.1.1.1.0.now
+
+abbrev UntilSo : (κs : Lfts 3) (a : ArgsD end_until_here.signature κs) (e : AtExit end_until_here.ended κs) → Result Outcome Refusal → Type 0
+UntilSo κs a e r = Until a.0.now a.1.1.0.0 a.1.1.1.0 a.1.1.1.1.0 a.1.0 a.1.1.1.1.1.0.now a.1.1.1.1.1.1.0.now r e.1.1.1.1.1.0.now e.1.1.1.1.1.1.0.now
+
+-- So are those that the steps of a start tag or data, an end tag and the document's end are handed and hand back, where they do not refuse.
+pub ends_few : (κs : Lfts 4) (a : ArgsD step_ends.signature κs) (r : Stop) (e : AtExit step_ends.ended κs) → step_ends_reads.Asked κs a → step_ends_reads.Learnt κs a r e → KeepsFew a.1.1.0 × KeepsFew r.open
 ends_few κs a r e asked stops = (keeps_few asked.0, keeps_few stops.turns.ranged)
 
-pub infer_start_few : (κs : Lfts 7) (a : ArgsD infer_start_here.signature κs) (r : OpenElements) (e : AtExit infer_start_here.ended κs) → infer_start_reads.Asked κs a → infer_start_reads.Learnt κs a r e → KeepsFew a.1.1.1.1.1.0 × KeepsFew r
+pub infer_start_few : (κs : Lfts 4) (a : ArgsD infer_start_here.signature κs) (r : OpenElements) (e : AtExit infer_start_here.ended κs) → infer_start_reads.Asked κs a → infer_start_reads.Learnt κs a r e → KeepsFew a.1.1.0 × KeepsFew r
 infer_start_few κs a r e asked infers =
     let made = infers.starting in
     let taken = ranged_taking made.taking asked.0 asked.0.required in
     let less : made.taken.count < TAGLVL = omega (arith, made.taking.count, asked.1) in
-    (keeps_few asked.0, keeps_few (subst Ranged (sym made.opens) (ranged_opening a.0.now infers.k taken less infers.few)))
+    (keeps_few asked.0, keeps_few (subst Ranged (sym made.opens) (ranged_opening a.0.rows.now infers.k taken less infers.few)))
 
-pub placed_few : (κs : Lfts 7) (a : ArgsD place.signature κs) (r : Outcome) (e : AtExit place.ended κs) → place_reads.Asked κs a → place_reads.Learnt κs a r e → KeepsFew a.1.1.1.1.1.0 × KeepsFew r.open
-placed_few κs a r e asked placed = (keeps_few asked.0, keeps_few placed.ranged)
+pub placed_few : (κs : Lfts 4) (a : ArgsD place.signature κs) (r : Result Outcome Refusal) (e : AtExit place.ended κs) → place_reads.Asked κs a → place_reads.Learnt κs a r e → KeepsFew a.1.1.0 × ((q : Outcome) → r ≡ Ok q → KeepsFew q.open)
+placed_few κs a r e asked placed = (keeps_few asked.0, λ q got. keeps_few (subst (PlacedSo κs a e) got placed).ranged)
 
-pub end_tag_few : (κs : Lfts 3) (a : ArgsD end_tag_lem.signature κs) (r : Outcome) (e : AtExit end_tag_lem.ended κs) → end_tag_reads.Asked κs a → end_tag_reads.Learnt κs a r e → KeepsFew a.1.0 × KeepsFew r.open
-end_tag_few κs a r e asked tagged = (keeps_few asked.0, keeps_few tagged.brings.ranged)
+pub end_tag_few : (κs : Lfts 3) (a : ArgsD end_tag_lem.signature κs) (r : Result Outcome Refusal) (e : AtExit end_tag_lem.ended κs) → end_tag_reads.Asked κs a → end_tag_reads.Learnt κs a r e → KeepsFew a.1.0 × ((q : Outcome) → r ≡ Ok q → KeepsFew q.open)
+end_tag_few κs a r e asked tagged = (keeps_few asked.0, λ q got. keeps_few (subst (TaggedSo κs a e) got tagged).brings.ranged)
 
-pub finish_few : (κs : Lfts 3) (a : ArgsD finish.signature κs) (r : Outcome) (e : AtExit finish.ended κs) → finish_reads.Asked κs a → finish_reads.Learnt κs a r e → KeepsFew a.1.0 × KeepsFew r.open
-finish_few κs a r e asked finished = (keeps_few asked.0, keeps_few finished.brings.ranged)
+pub finish_few : (κs : Lfts 3) (a : ArgsD finish.signature κs) (r : Result Outcome Refusal) (e : AtExit finish.ended κs) → finish_reads.Asked κs a → finish_reads.Learnt κs a r e → KeepsFew a.1.0 × ((q : Outcome) → r ≡ Ok q → KeepsFew q.open)
+finish_few κs a r e asked finished = (keeps_few asked.0, λ q got. keeps_few (subst (FinishedSo κs a e) got finished).brings.ranged)
 
 -- Every moment: "At every moment both must equal what 01's definition says of the places taken."
 
@@ -169,25 +184,25 @@ pub new_moment : (κs : Lfts 0) (a : ArgsD new.signature κs) (r : OpenElements)
 new_moment κs a r e made c s es accepted M bits = subst (Moment es M bits nothing_open) (sym made) (moment_first s es accepted)
 
 -- `take`, by the tables of the type, of the place as which a start tag or a data byte fits: that place is taken in the rules' state.
-pub take_fitting : (κs : Lfts 3) (a : ArgsD take.signature κs) (r : OpenElements) (e : AtExit take.ended κs) → take_reads.Learnt κs a r e
-    → (s : List ℕ) (es : List Element) (places facts : List ℕ) → Tables s es a.1.0.now places facts a.1.1.0.now → (D : Decisions) → Means s es D
+pub take_fitting : (κs : Lfts 2) (a : ArgsD take.signature κs) (r : OpenElements) (e : AtExit take.ended κs) → take_reads.Learnt κs a r e
+    → (s : List ℕ) (es : List Element) (places facts : List ℕ) → Tables s es a.1.0.rows.now places facts a.1.0.members.now → (D : Decisions) → Means s es D
     → let o = a.0 in
-    let M = a.1.1.0.now in
-    let place = a.1.1.1.1.0.0 in
-    (z : State) → Moment es M a.1.1.1.0.now z o → (t : Token) → place ≡ fitting s es D z.current t → 1 ≤ place → Moment es M e.1.1.1.0.now (take_token s es D t z) r
+    let M = a.1.0.members.now in
+    let place = a.1.1.1.0.0 in
+    (z : State) → Moment es M a.1.1.0.now z o → (t : Token) → place ≡ fitting s es D z.current t → 1 ≤ place → Moment es M e.1.1.0.now (take_token s es D t z) r
 take_fitting κs a r e made s es places facts tables D means z m t same some =
-    moment_took tables D means m (fits t (omega (arith, same))) (subst (λ (p : ℕ). Taking a.1.0.now a.1.1.0.now a.1.1.1.0.now p a.0 r e.1.1.1.0.now) same made)
+    moment_took tables D means m (fits t (omega (arith, same))) (subst (λ (p : ℕ). Taking a.1.0.rows.now a.1.0.members.now a.1.1.0.now p a.0 r e.1.1.0.now) same made)
 
 -- `take` of the required place, which is kept with the current element: it is the place that the rules require, and is taken in their state.
-pub take_required : (κs : Lfts 3) (a : ArgsD take.signature κs) (r : OpenElements) (e : AtExit take.ended κs) → take_reads.Learnt κs a r e
-    → (s : List ℕ) (es : List Element) (places facts : List ℕ) → Tables s es a.1.0.now places facts a.1.1.0.now → (D : Decisions) → Means s es D
+pub take_required : (κs : Lfts 2) (a : ArgsD take.signature κs) (r : OpenElements) (e : AtExit take.ended κs) → take_reads.Learnt κs a r e
+    → (s : List ℕ) (es : List Element) (places facts : List ℕ) → Tables s es a.1.0.rows.now places facts a.1.0.members.now → (D : Decisions) → Means s es D
     → let o = a.0 in
-    let M = a.1.1.0.now in
-    let place = a.1.1.1.1.0.0 in
-    (z : State) → Moment es M a.1.1.1.0.now z o → place ≡ o.required.0 → 1 ≤ place → Moment es M e.1.1.1.0.now (take_place (required_place s es D z.current) z) r
+    let M = a.1.0.members.now in
+    let place = a.1.1.1.0.0 in
+    (z : State) → Moment es M a.1.1.0.now z o → place ≡ o.required.0 → 1 ≤ place → Moment es M e.1.1.0.now (take_place (required_place s es D z.current) z) r
 take_required κs a r e made s es places facts tables D means z m same some =
     let kept = same ∙ sym (required_kept s es tables.accepted m D means) in
-    moment_took tables D means m (required (omega (arith, kept))) (subst (λ (p : ℕ). Taking a.1.0.now a.1.1.0.now a.1.1.1.0.now p a.0 r e.1.1.1.0.now) kept made)
+    moment_took tables D means m (required (omega (arith, kept))) (subst (λ (p : ℕ). Taking a.1.0.rows.now a.1.0.members.now a.1.1.0.now p a.0 r e.1.1.0.now) kept made)
 
 -- `start` of an element that has a model: it is entered in the rules' state.
 pub start_moment : (κs : Lfts 1) (a : ArgsD start.signature κs) (r : OpenElements) (e : AtExit start.ended κs) → start_reads.Asked κs a → start_reads.Learnt κs a r e
@@ -198,13 +213,13 @@ pub start_moment : (κs : Lfts 1) (a : ArgsD start.signature κs) (r : OpenEleme
 start_moment κs a r e asked made s es places facts M tables bits z m declared has = subst (Moment es M bits (enter a.1.1.0.0 z)) (sym made) (moment_entered tables m a.1.1.0.0 declared has asked.1)
 
 -- `start_required`, of the element whose start is to be inferred: in the rules' state the required place is taken, and the element entered.
-pub start_required_moment : (κs : Lfts 3) (a : ArgsD start_required.signature κs) (r : OpenElements) (e : AtExit start_required.ended κs) → start_required_reads.Asked κs a → start_required_reads.Learnt κs a r e
-    → (s : List ℕ) (es : List Element) (places facts : List ℕ) → Tables s es a.1.0.now places facts a.1.1.0.now → (D : Decisions) → Means s es D
+pub start_required_moment : (κs : Lfts 2) (a : ArgsD start_required.signature κs) (r : OpenElements) (e : AtExit start_required.ended κs) → start_required_reads.Asked κs a → start_required_reads.Learnt κs a r e
+    → (s : List ℕ) (es : List Element) (places facts : List ℕ) → Tables s es a.1.0.rows.now places facts a.1.0.members.now → (D : Decisions) → Means s es D
     → let o = a.0 in
-    let M = a.1.1.0.now in
-    let k = a.1.1.1.1.0.0 in
-    (z : State) → Moment es M a.1.1.1.0.now z o → inferable s es D z.current ≡ k → 1 ≤ k → Moment es M e.1.1.1.0.now (enter k (take_place (required_place s es D z.current) z)) r
-start_required_moment κs a r e asked made s es places facts tables D means z m chosen some = moment_started tables D means m a.1.1.1.1.0.0 chosen some asked.1 made
+    let M = a.1.0.members.now in
+    let k = a.1.1.1.0.0 in
+    (z : State) → Moment es M a.1.1.0.now z o → inferable s es D z.current ≡ k → 1 ≤ k → Moment es M e.1.1.0.now (enter k (take_place (required_place s es D z.current) z)) r
+start_required_moment κs a r e asked made s es places facts tables D means z m chosen some = moment_started tables D means m a.1.1.1.0.0 chosen some asked.1 made
 
 -- `infer_end`: the method asks for the mark, so that the content is complete in the rules too. The parent u of the current element is the current one again,
 -- with us around it, and the end is noted. So it is of each end that a start tag, data, an end tag or the document's end infers.
@@ -254,15 +269,15 @@ module _ (c : Settings) (s d : List ℕ) (es : List Element) (rows places facts 
 pub is_over_step : (κs : Lfts 0) (a : ArgsD is_over_here.signature κs) (r : Bool) (e : AtExit is_over_here.ended κs) → is_over_reads.Learnt κs a r e → r ≡ eqb a.0.element.0 0 && a.0.complete
 is_over_step κs a r e says = says
 
-pub ends_step : (κs : Lfts 7) (a : ArgsD step_ends.signature κs) (r : Stop) (e : AtExit step_ends.ended κs) → step_ends_reads.Learnt κs a r e
-    → Stops a.0.now a.1.0.now a.1.1.0.now a.1.1.1.0.now a.1.1.1.1.0.now a.1.1.1.1.1.1.0.0 a.1.1.1.1.1.1.1.0 a.1.1.1.1.1.1.1.1.0 a.1.1.1.1.1.0 a.1.1.1.1.1.1.1.1.1.0.now a.1.1.1.1.1.1.1.1.1.1.0.now r e.1.1.1.1.1.1.1.1.1.0.now e.1.1.1.1.1.1.1.1.1.1.0.now
+pub ends_step : (κs : Lfts 4) (a : ArgsD step_ends.signature κs) (r : Stop) (e : AtExit step_ends.ended κs) → step_ends_reads.Learnt κs a r e
+    → Stops a.0.rows.now a.0.places.now a.0.facts.now a.0.members.now a.1.0.now a.1.1.1.0.0 a.1.1.1.1.0 a.1.1.1.1.1.0 a.1.1.0 a.1.1.1.1.1.1.0.now a.1.1.1.1.1.1.1.0.now r e.1.1.1.1.1.1.0.now e.1.1.1.1.1.1.1.0.now
 ends_step κs a r e stops = stops
 
-pub infer_start_step : (κs : Lfts 7) (a : ArgsD infer_start_here.signature κs) (r : OpenElements) (e : AtExit infer_start_here.ended κs) → infer_start_reads.Learnt κs a r e
-    → InfersStart a.0.now a.1.0.now a.1.1.0.now a.1.1.1.0.now a.1.1.1.1.0.now a.1.1.1.1.1.1.0 a.1.1.1.1.1.1.1.0 a.1.1.1.1.1.0 a.1.1.1.1.1.1.1.1.0.now a.1.1.1.1.1.1.1.1.1.0.now r e.1.1.1.1.0.now e.1.1.1.1.1.1.1.1.0.now e.1.1.1.1.1.1.1.1.1.0.now
+pub infer_start_step : (κs : Lfts 4) (a : ArgsD infer_start_here.signature κs) (r : OpenElements) (e : AtExit infer_start_here.ended κs) → infer_start_reads.Learnt κs a r e
+    → InfersStart a.0.rows.now a.0.places.now a.0.facts.now a.0.members.now a.1.0.now a.1.1.1.0 a.1.1.1.1.0 a.1.1.0 a.1.1.1.1.1.0.now a.1.1.1.1.1.1.0.now r e.1.0.now e.1.1.1.1.1.0.now e.1.1.1.1.1.1.0.now
 infer_start_step κs a r e infers = infers
 
-pub next_start_step : (κs : Lfts 2) (a : ArgsD next_start.signature κs) (r : ElementNo) (e : AtExit next_start.ended κs) → next_start_reads.Learnt κs a r e → Chooses a.0.now a.1.0.now a.1.1.0 r.0
+pub next_start_step : (κs : Lfts 1) (a : ArgsD next_start.signature κs) (r : ElementNo) (e : AtExit next_start.ended κs) → next_start_reads.Learnt κs a r e → Chooses a.0.places.now a.0.facts.now a.1.0 r.0
 next_start_step κs a r e (chooses, few) = chooses
 
 pub put_defaults_step : (κs : Lfts 3) (a : ArgsD put_defaults_here.signature κs) (r : ℕ) (e : AtExit put_defaults_here.ended κs) → put_defaults_reads.Learnt κs a r e
@@ -273,8 +288,8 @@ pub put_written_step : (κs : Lfts 4) (a : ArgsD PutWritten.signature κs) (r : 
     → PutsWritten a.0.now a.1.0.now a.1.1.0.0 a.1.1.1.0 a.1.1.1.1.0.now a.1.1.1.1.1.0.now r e.1.1.1.1.0.now e.1.1.1.1.1.0.now
 put_written_step κs a r e puts = puts
 
-pub placed_step : (κs : Lfts 7) (a : ArgsD place.signature κs) (r : Outcome) (e : AtExit place.ended κs) → place_reads.Learnt κs a r e
-    → Placed a.0.now a.1.0.now a.1.1.0.now a.1.1.1.0.now a.1.1.1.1.0.now a.1.1.1.1.1.1.0 a.1.1.1.1.1.1.1.0.0 a.1.1.1.1.1.1.1.1.0 a.1.1.1.1.1.1.1.1.1.0 a.1.1.1.1.1.1.1.1.1.1.0 a.1.1.1.1.1.0 a.1.1.1.1.1.1.1.1.1.1.1.0.now a.1.1.1.1.1.1.1.1.1.1.1.1.0.now r e.1.1.1.1.0.now e.1.1.1.1.1.1.1.1.1.1.1.0.now e.1.1.1.1.1.1.1.1.1.1.1.1.0.now
+pub placed_step : (κs : Lfts 4) (a : ArgsD place.signature κs) (r : Result Outcome Refusal) (e : AtExit place.ended κs) → place_reads.Learnt κs a r e
+    → Placed a.0.rows.now a.0.places.now a.0.facts.now a.0.members.now a.1.0.now a.1.1.1.0 a.1.1.1.1.0.0 a.1.1.1.1.1.0 a.1.1.1.1.1.1.0 a.1.1.1.1.1.1.1.0 a.1.1.0 a.1.1.1.1.1.1.1.1.0.now a.1.1.1.1.1.1.1.1.1.0.now r e.1.0.now e.1.1.1.1.1.1.1.1.0.now e.1.1.1.1.1.1.1.1.1.0.now
 placed_step κs a r e placed = placed
 
 pub opens_step : (κs : Lfts 1) (a : ArgsD opens.signature κs) (r : Bool) (e : AtExit opens.ended κs) → opens_reads.Learnt κs a r e → Opens a.0.now a.1.0.0 r
@@ -296,24 +311,24 @@ module _ (s : List ℕ) (es : List Element) (rows places facts M lists marks : L
   within_data nothing z m = steps_data tables steps nothing z m
 
 -- Within an end tag that is not refused: the ends that it infers, then itself. The other tables are those of the type, which an end tag does not ask.
-pub within_end_tag : (κs : Lfts 3) (a : ArgsD end_tag_lem.signature κs) (r : Outcome) (e : AtExit end_tag_lem.ended κs) → end_tag_reads.Learnt κs a r e
+pub within_end_tag : (κs : Lfts 3) (a : ArgsD end_tag_lem.signature κs) (g : Result Outcome Refusal) (e : AtExit end_tag_lem.ended κs) → end_tag_reads.Learnt κs a g e → (r : Outcome) → g ≡ Ok r
     → (s : List ℕ) (es : List Element) (rows places M : List ℕ) → Tables s es rows places a.0.now M
     → let o = a.1.0 in
     let x = a.1.1.0.0 in
     let at = a.1.1.1.0 in
     let after = a.1.1.1.1.0 in
-    r.number ≡ 0 → (bits : List ℕ) (z : State) → Moment es M bits z o
+    (bits : List ℕ) (z : State) → Moment es M bits z o
     → (y : State) × (end_element s es (decided s es) x at after z ≡ got y) × Leads s es (decided s es) rows M z o bits y r.open bits
-within_end_tag κs a r e tagged s es rows places M tables done bits z m = tagged_leads tables tagged done z m
+within_end_tag κs a g e tagged r done s es rows places M tables bits z m = tagged_leads tables (subst (TaggedSo κs a e) done tagged) z m
 
 -- Within the document's end that is not refused: the ends that it infers, until nothing is open and the document itself is complete, with the events that
 -- it brings.
-pub within_end : (κs : Lfts 3) (a : ArgsD finish.signature κs) (r : Outcome) (e : AtExit finish.ended κs) (h : finish_reads.Learnt κs a r e)
+pub within_end : (κs : Lfts 3) (a : ArgsD finish.signature κs) (g : Result Outcome Refusal) (e : AtExit finish.ended κs) (h : finish_reads.Learnt κs a g e) (r : Outcome) (done : g ≡ Ok r)
     → (s : List ℕ) (es : List Element) (rows places M : List ℕ) → Tables s es rows places a.0.now M
     → let o = a.1.0 in
-    r.number ≡ 0 → (bits : List ℕ) (z : State) → Moment es M bits z o
-    → (y : State) × Beside s es (decided s es) rows M z o bits y × (y.around ≡ []) × (is_complete s es (decided s es) y.current ≡ true) × (y.events ≡ z.events ++ h.brings.events)
-within_end κs a r e finished s es rows places M tables none bits z m = finished_beside tables finished none z m
+    (bits : List ℕ) (z : State) → Moment es M bits z o
+    → (y : State) × Beside s es (decided s es) rows M z o bits y × (y.around ≡ []) × (is_complete s es (decided s es) y.current ≡ true) × (y.events ≡ z.events ++ (subst (FinishedSo κs a e) done h).brings.events)
+within_end κs a g e finished r done s es rows places M tables bits z m = finished_beside tables (subst (FinishedSo κs a e) done finished) z m
 
 -- The steps within a token, "At every moment both must equal what 01's definition says of the places taken": each by the contract of the function that takes
 -- it, from the moment before it to the moment after it, though the token may still be refused later.
@@ -321,28 +336,28 @@ within_end κs a r e finished s es rows places M tables none bits z m = finished
 -- Within a start tag of x, or data for 0, the ends that are inferred before it (`ends` of inferring): act by act they lead to the open elements that are
 -- handed back. Where the token is not stuck there, so many starts can be inferred one in the other as were found, none if the token fits, and it fits in the
 -- last; a place that was found is the one as which the token fits.
-pub within_ends : (κs : Lfts 7) (a : ArgsD step_ends.signature κs) (r : Stop) (e : AtExit step_ends.ended κs) → step_ends_reads.Learnt κs a r e
-    → (s : List ℕ) (es : List Element) → Tables s es a.0.now a.1.0.now a.1.1.0.now a.1.1.1.0.now
-    → let M = a.1.1.1.0.now in
-    let bits = a.1.1.1.1.0.now in
-    let o = a.1.1.1.1.1.0 in
-    let x = a.1.1.1.1.1.1.0.0 in
+pub within_ends : (κs : Lfts 4) (a : ArgsD step_ends.signature κs) (r : Stop) (e : AtExit step_ends.ended κs) → step_ends_reads.Learnt κs a r e
+    → (s : List ℕ) (es : List Element) → Tables s es a.0.rows.now a.0.places.now a.0.facts.now a.0.members.now
+    → let M = a.0.members.now in
+    let bits = a.1.0.now in
+    let o = a.1.1.0 in
+    let x = a.1.1.1.0.0 in
     x ≤ length es → (z : State) → Moment es M bits z o
-    → (y : State) × Leads s es (decided s es) a.0.now M z o bits y r.open bits
+    → (y : State) × Leads s es (decided s es) a.0.rows.now M z o bits y r.open bits
     × ((r.found ≡ Stuck → ⊥) → Infers s es (decided s es) (token_of x) (starts_of r.found) y.current)
     × ((p : typed.Place) → r.found ≡ Taken p → p.0 ≡ fitting s es (decided s es) y.current (token_of x))
 within_ends κs a r e stops s es tables most z m = stops_lead tables stops most z m
 
 -- Each start that is inferred before it (`infer_start` of inferring), where one or more are left to infer: it is one act, after which there is a moment with
 -- the open elements that are handed back, and one start fewer is left. Nothing is taken yet in the element that it opens.
-pub within_inferred_start : (κs : Lfts 7) (a : ArgsD infer_start_here.signature κs) (r : OpenElements) (e : AtExit infer_start_here.ended κs) → infer_start_reads.Asked κs a → infer_start_reads.Learnt κs a r e
-    → (s : List ℕ) (es : List Element) → Tables s es a.0.now a.1.0.now a.1.1.0.now a.1.1.1.0.now
-    → let M = a.1.1.1.0.now in
-    let o = a.1.1.1.1.1.0 in
-    let at = a.1.1.1.1.1.1.0 in
-    (z : State) → Moment es M a.1.1.1.1.0.now z o → (t : Token) (left : ℕ) → Infers s es (decided s es) t (suc left) z.current
+pub within_inferred_start : (κs : Lfts 4) (a : ArgsD infer_start_here.signature κs) (r : OpenElements) (e : AtExit infer_start_here.ended κs) → infer_start_reads.Asked κs a → infer_start_reads.Learnt κs a r e
+    → (s : List ℕ) (es : List Element) → Tables s es a.0.rows.now a.0.places.now a.0.facts.now a.0.members.now
+    → let M = a.0.members.now in
+    let o = a.1.1.0 in
+    let at = a.1.1.1.0 in
+    (z : State) → Moment es M a.1.0.now z o → (t : Token) (left : ℕ) → Infers s es (decided s es) t (suc left) z.current
     → let y = infer_one s es (decided s es) at z in
-    Act s es (decided s es) z y × Moment es M e.1.1.1.1.0.now y r × Infers s es (decided s es) t left y.current × (y.current.taken ≡ [])
+    Act s es (decided s es) z y × Moment es M e.1.0.now y r × Infers s es (decided s es) t left y.current × (y.current.taken ≡ [])
 within_inferred_start κs a r e asked infers s es tables z m t left (some, rest) =
     let (does, there) = infers_start_does tables infers asked.1 z m some in
     (does, there, rest, refl)
@@ -350,75 +365,75 @@ within_inferred_start κs a r e asked infers s es tables z m t left (some, rest)
 -- The place of a start tag of x, or of data for 0 (`placed` of placing), which is not refused there: in the rules' state the place is taken as which the token
 -- fits. What was found before (`within_ends`) is how many starts to infer, after which nothing is taken yet in the current element
 -- (`within_inferred_start`), or that place.
-pub within_place : (κs : Lfts 7) (a : ArgsD place.signature κs) (r : Outcome) (e : AtExit place.ended κs) → place_reads.Learnt κs a r e
-    → (s : List ℕ) (es : List Element) → Tables s es a.0.now a.1.0.now a.1.1.0.now a.1.1.1.0.now
-    → let M = a.1.1.1.0.now in
-    let bits = a.1.1.1.1.0.now in
-    let o = a.1.1.1.1.1.0 in
-    let found = a.1.1.1.1.1.1.0 in
-    let x = a.1.1.1.1.1.1.1.0.0 in
-    x ≤ length es → r.number ≡ 0 → (z : State) → Moment es M bits z o
+pub within_place : (κs : Lfts 4) (a : ArgsD place.signature κs) (g : Result Outcome Refusal) (e : AtExit place.ended κs) → place_reads.Learnt κs a g e → (r : Outcome) → g ≡ Ok r
+    → (s : List ℕ) (es : List Element) → Tables s es a.0.rows.now a.0.places.now a.0.facts.now a.0.members.now
+    → let M = a.0.members.now in
+    let bits = a.1.0.now in
+    let o = a.1.1.0 in
+    let found = a.1.1.1.0 in
+    let x = a.1.1.1.1.0.0 in
+    x ≤ length es → (z : State) → Moment es M bits z o
     → ((p : typed.Place) → found ≡ Taken p → p.0 ≡ fitting s es (decided s es) z.current (token_of x)) → ((n : ℕ) → found ≡ Inferred n → z.current.taken ≡ [])
-    → Moment es M e.1.1.1.1.0.now (take_token s es (decided s es) (token_of x) z) r.open
-within_place κs a r e placed s es tables most done z m right new = placed_moment tables _ placed most done z m right new
+    → Moment es M e.1.0.now (take_token s es (decided s es) (token_of x) z) r.open
+within_place κs a g e placed r done s es tables most z m right new = placed_moment tables _ (subst (PlacedSo κs a e) done placed) most z m right new
 
 -- Of an EMPTY element x the tag is noted there, and acts lead to what is handed back.
-pub within_empty_place : (κs : Lfts 7) (a : ArgsD place.signature κs) (r : Outcome) (e : AtExit place.ended κs) → place_reads.Learnt κs a r e
-    → (s : List ℕ) (es : List Element) → Tables s es a.0.now a.1.0.now a.1.1.0.now a.1.1.1.0.now
-    → let M = a.1.1.1.0.now in
-    let bits = a.1.1.1.1.0.now in
-    let o = a.1.1.1.1.1.0 in
-    let found = a.1.1.1.1.1.1.0 in
-    let x = a.1.1.1.1.1.1.1.0.0 in
-    let at = a.1.1.1.1.1.1.1.1.0 in
-    let after = a.1.1.1.1.1.1.1.1.1.0 in
-    1 ≤ x → x ≤ length es → has_model (content_of es x) ≡ false → r.number ≡ 0 → (z : State) → Moment es M bits z o
+pub within_empty_place : (κs : Lfts 4) (a : ArgsD place.signature κs) (g : Result Outcome Refusal) (e : AtExit place.ended κs) → place_reads.Learnt κs a g e → (r : Outcome) → g ≡ Ok r
+    → (s : List ℕ) (es : List Element) → Tables s es a.0.rows.now a.0.places.now a.0.facts.now a.0.members.now
+    → let M = a.0.members.now in
+    let bits = a.1.0.now in
+    let o = a.1.1.0 in
+    let found = a.1.1.1.0 in
+    let x = a.1.1.1.1.0.0 in
+    let at = a.1.1.1.1.1.0 in
+    let after = a.1.1.1.1.1.1.0 in
+    1 ≤ x → x ≤ length es → has_model (content_of es x) ≡ false → (z : State) → Moment es M bits z o
     → ((p : typed.Place) → found ≡ Taken p → p.0 ≡ fitting s es (decided s es) z.current (token_of x)) → ((n : ℕ) → found ≡ Inferred n → z.current.taken ≡ [])
-    → (y : State) × (noting es x at after (take_token s es (decided s es) (token_of x) z) ≡ got y) × Leads s es (decided s es) a.0.now M z o bits y r.open e.1.1.1.1.0.now
-within_empty_place κs a r e placed s es tables some most none done z m right new =
-    places_leads tables _ placed (ap (λ (b : Bool). opened_by a.0.now a.1.1.1.1.1.1.1.0.0 b r.open) (sym none)) some most done z m right new
+    → (y : State) × (noting es x at after (take_token s es (decided s es) (token_of x) z) ≡ got y) × Leads s es (decided s es) a.0.rows.now M z o bits y r.open e.1.0.now
+within_empty_place κs a g e placed r done s es tables some most none z m right new =
+    places_leads tables _ (subst (PlacedSo κs a e) done placed) (ap (λ (b : Bool). opened_by a.0.rows.now a.1.1.1.1.0.0 b r.open) (sym none)) some most z m right new
 
 -- An element x that has a model is opened after it (`start` of open_elements, with what `placed` handed back): the tag is noted and the element entered, and
 -- acts lead to what `start` hands back.
-pub within_opened_place : (κs : Lfts 7) (a : ArgsD place.signature κs) (r : Outcome) (e : AtExit place.ended κs) → place_reads.Learnt κs a r e
-    → (s : List ℕ) (es : List Element) → Tables s es a.0.now a.1.0.now a.1.1.0.now a.1.1.1.0.now
-    → let M = a.1.1.1.0.now in
-    let bits = a.1.1.1.1.0.now in
-    let o = a.1.1.1.1.1.0 in
-    let found = a.1.1.1.1.1.1.0 in
-    let x = a.1.1.1.1.1.1.1.0.0 in
-    let at = a.1.1.1.1.1.1.1.1.0 in
-    let after = a.1.1.1.1.1.1.1.1.1.0 in
-    (lives : Lfts 1) (b : ArgsD start.signature lives) (q : OpenElements) (f : AtExit start.ended lives) → start_reads.Learnt lives b q f → b.0 ≡ r.open → b.1.0.now ≡ a.0.now → b.1.1.0.0 ≡ x
-    → 1 ≤ x → x ≤ length es → has_model (content_of es x) ≡ true → r.number ≡ 0 → (z : State) → Moment es M bits z o
+pub within_opened_place : (κs : Lfts 4) (a : ArgsD place.signature κs) (g : Result Outcome Refusal) (e : AtExit place.ended κs) → place_reads.Learnt κs a g e → (r : Outcome) → g ≡ Ok r
+    → (s : List ℕ) (es : List Element) → Tables s es a.0.rows.now a.0.places.now a.0.facts.now a.0.members.now
+    → let M = a.0.members.now in
+    let bits = a.1.0.now in
+    let o = a.1.1.0 in
+    let found = a.1.1.1.0 in
+    let x = a.1.1.1.1.0.0 in
+    let at = a.1.1.1.1.1.0 in
+    let after = a.1.1.1.1.1.1.0 in
+    (lives : Lfts 1) (b : ArgsD start.signature lives) (q : OpenElements) (f : AtExit start.ended lives) → start_reads.Learnt lives b q f → b.0 ≡ r.open → b.1.0.now ≡ a.0.rows.now → b.1.1.0.0 ≡ x
+    → 1 ≤ x → x ≤ length es → has_model (content_of es x) ≡ true → (z : State) → Moment es M bits z o
     → ((p : typed.Place) → found ≡ Taken p → p.0 ≡ fitting s es (decided s es) z.current (token_of x)) → ((n : ℕ) → found ≡ Inferred n → z.current.taken ≡ [])
-    → (y : State) × (noting es x at after (take_token s es (decided s es) (token_of x) z) ≡ got y) × Leads s es (decided s es) a.0.now M z o bits y q e.1.1.1.1.0.now
-within_opened_place κs a r e placed s es tables lives b q f made given table number some most has done z m right new =
-    let there : q ≡ opening a.0.now a.1.1.1.1.1.1.1.0.0 r.open = made ∙ ap₂ (λ (rows : List ℕ) (k : ℕ). opening rows k b.0) table number ∙ ap (opening a.0.now a.1.1.1.1.1.1.1.0.0) given in
-    places_leads tables _ placed (there ∙ ap (λ (c : Bool). opened_by a.0.now a.1.1.1.1.1.1.1.0.0 c r.open) (sym has)) some most done z m right new
+    → (y : State) × (noting es x at after (take_token s es (decided s es) (token_of x) z) ≡ got y) × Leads s es (decided s es) a.0.rows.now M z o bits y q e.1.0.now
+within_opened_place κs a g e placed r done s es tables lives b q f made given table number some most has z m right new =
+    let there : q ≡ opening a.0.rows.now a.1.1.1.1.0.0 r.open = made ∙ ap₂ (λ (rows : List ℕ) (k : ℕ). opening rows k b.0) table number ∙ ap (opening a.0.rows.now a.1.1.1.1.0.0) given in
+    places_leads tables _ (subst (PlacedSo κs a e) done placed) (there ∙ ap (λ (c : Bool). opened_by a.0.rows.now a.1.1.1.1.0.0 c r.open) (sym has)) some most z m right new
 
 -- The place of a run of data likewise: the rules' state is the one after its first byte. Each further byte takes the same place again.
-pub within_data_place : (κs : Lfts 7) (a : ArgsD place.signature κs) (r : Outcome) (e : AtExit place.ended κs) → place_reads.Learnt κs a r e
-    → (s : List ℕ) (es : List Element) → Tables s es a.0.now a.1.0.now a.1.1.0.now a.1.1.1.0.now
-    → let M = a.1.1.1.0.now in
-    let bits = a.1.1.1.1.0.now in
-    let o = a.1.1.1.1.1.0 in
-    let found = a.1.1.1.1.1.1.0 in
-    let x = a.1.1.1.1.1.1.1.0.0 in
-    let at = a.1.1.1.1.1.1.1.1.0 in
-    x ≡ 0 → r.number ≡ 0 → (z : State) → Moment es M bits z o
+pub within_data_place : (κs : Lfts 4) (a : ArgsD place.signature κs) (g : Result Outcome Refusal) (e : AtExit place.ended κs) → place_reads.Learnt κs a g e → (r : Outcome) → g ≡ Ok r
+    → (s : List ℕ) (es : List Element) → Tables s es a.0.rows.now a.0.places.now a.0.facts.now a.0.members.now
+    → let M = a.0.members.now in
+    let bits = a.1.0.now in
+    let o = a.1.1.0 in
+    let found = a.1.1.1.0 in
+    let x = a.1.1.1.1.0.0 in
+    let at = a.1.1.1.1.1.0 in
+    x ≡ 0 → (z : State) → Moment es M bits z o
     → ((p : typed.Place) → found ≡ Taken p → p.0 ≡ fitting s es (decided s es) z.current (token_of x)) → ((n : ℕ) → found ≡ Inferred n → z.current.taken ≡ [])
     → let y = take_token s es (decided s es) pcdata z in
-    Leads s es (decided s es) a.0.now M z o bits (record { current = y.current; around = y.around; events = with_data at y.events }) r.open e.1.1.1.1.0.now
-within_data_place κs a r e places s es tables nothing done z m right new = places_data tables _ places nothing done z m right new
+    Leads s es (decided s es) a.0.rows.now M z o bits (record { current = y.current; around = y.around; events = with_data at y.events }) r.open e.1.0.now
+within_data_place κs a g e placed r done s es tables nothing z m right new = places_data tables _ (subst (PlacedSo κs a e) done placed) nothing z m right new
 
 -- Within an end tag of x, or the document's end, the ends that are inferred until the current element is x or nothing is around it (`end_until` of
 -- left_out_ends), where none of them is refused. `infer_end_moment` has the moment after each.
-pub within_left_out_ends : (κs : Lfts 3) (a : ArgsD end_until_here.signature κs) (r : Outcome) (e : AtExit end_until_here.ended κs) → end_until_reads.Learnt κs a r e
+pub within_left_out_ends : (κs : Lfts 3) (a : ArgsD end_until_here.signature κs) (g : Result Outcome Refusal) (e : AtExit end_until_here.ended κs) → end_until_reads.Learnt κs a g e → (r : Outcome) → g ≡ Ok r
     → (s : List ℕ) (es : List Element) (rows places M : List ℕ) → Tables s es rows places a.0.now M
     → let o = a.1.0 in
     let x = a.1.1.0.0 in
     let at = a.1.1.1.0 in
-    r.number ≡ 0 → (bits : List ℕ) (z : State) → Moment es M bits z o
+    (bits : List ℕ) (z : State) → Moment es M bits z o
     → (y : State) × (infer_ends s es (decided s es) x at z.around z.current z.events ≡ got y) × Leads s es (decided s es) rows M z o bits y r.open bits
-within_left_out_ends κs a r e until s es rows places M tables done bits z m = until_leads tables until done z m
+within_left_out_ends κs a g e until r done s es rows places M tables bits z m = until_leads tables (subst (UntilSo κs a e) done until) z m
