@@ -18,28 +18,14 @@ use Rattle.attribute_records.specs.Numbers.{numbers_length, numbers_more, lists_
 pub nine_are : {e a n z k d l m v k' d' l' m' v' : ℕ} → k ≡ k' → d ≡ d' → l ≡ l' → m ≡ m' → v ≡ v' → e ∷ a ∷ n ∷ z ∷ k ∷ d ∷ l ∷ m ∷ v ∷ [] ≡ e ∷ a ∷ n ∷ z ∷ k' ∷ d' ∷ l' ∷ m' ∷ v' ∷ []
 nine_are p q r t u = rw (p, q, r, t, u)
 
--- Numbers put from i on, through the part of the buffer that begins there.
-pub part_written : (l : List ℕ) (i : ℕ) (xs : List ℕ) {part ys : List ℕ} → ys ≡ xs → i + length xs ≤ length l → part ≡ filled_with ys (take (length l - i) (drop i l)) → take i l ++ (part ++ drop (length l - i) (drop i l)) ≡ written l i xs
-part_written l i xs {part} {ys} e h p =
-    let rest = drop (i + length xs) l in
-    let none : drop (length l - i) (drop i l) ≡ [] = drop-drop (length l - i) i l ∙ drop_of_length-le l {i = i + (length l - i)} (omega arith) in
-    let all : take (length l - i) (drop i l) ≡ drop i l = take_all (length l - i) (drop i l) (omega (arith, length-drop i l)) in
-    let there : part ≡ xs ++ rest = p ∙ rw (all, e, drop-drop (length xs) i l) in
-    rw (none, append-nil part, there, written_fits l i xs h)
-
--- The numbers of a record, as they stand and as bytes, put where they fit.
-module _ (l : List ℕ) (i : ℕ) (xs : List ℕ) (nine : length xs ≡ attribute_width) where
-  pub part_numbers : {part : List ℕ} → i + attribute_width ≤ length l → part ≡ filled_with (take attribute_width xs) (take (length l - i) (drop i l)) → take i l ++ (part ++ drop (length l - i) (drop i l)) ≡ written l i xs
-  part_numbers h p = part_written l i xs (take_all attribute_width xs (omega arith)) (omega arith) p
-
-  pub numbers_outside : length l < i + attribute_width → l ≡ written l i xs
-  numbers_outside h = sym (written_not l i xs (omega arith))
-
-  pub part_bytes : {part : List ℕ} → i + 4 * attribute_width ≤ length l → part ≡ filled_with (bytes_of (take attribute_width xs)) (take (length l - i) (drop i l)) → take i l ++ (part ++ drop (length l - i) (drop i l)) ≡ written l i (bytes_of xs)
-  part_bytes h p = part_written l i (bytes_of xs) (ap bytes_of (take_all attribute_width xs (omega arith))) (omega (arith, bytes_of_length xs)) p
-
-  pub bytes_outside : length l < i + 4 * attribute_width → l ≡ written l i (bytes_of xs)
-  bytes_outside h = sym (written_not l i (bytes_of xs) (omega (arith, bytes_of_length xs)))
+-- The bytes of a record, put over as many others.
+pub bytes_filled : (xs zs : List ℕ) {ys : List ℕ} → length xs ≡ attribute_width → length zs ≡ 4 * attribute_width
+    → ys ≡ filled_with (bytes_of (take attribute_width xs)) zs → ys ≡ bytes_of xs
+bytes_filled xs zs e n p =
+    let all = take_all attribute_width xs (omega arith) in
+    let size = bytes_of_length xs in
+    let none : drop (length (bytes_of xs)) zs ≡ [] = drop_of_length-le zs {i = length (bytes_of xs)} (omega arith) in
+    p ∙ rw (all, none) (append-nil (bytes_of xs))
 
 -- Nothing is put, a record is put, and what is put behind what was put makes one with it.
 pub none_put : (l m : List ℕ) (n : ℕ) → Puts l m n [] l m
@@ -51,18 +37,18 @@ none_put l m n =
     }
 
 module _ (numbers bytes : List ℕ) (n : ℕ) (xs : List ℕ) where
-  pub puts_record : {row numbers' bytes' : List ℕ} → row ≡ xs → numbers' ≡ written numbers (attribute_width * n) row → bytes' ≡ written bytes (4 * (attribute_width * n)) (bytes_of row) → Puts numbers bytes n xs numbers' bytes'
+  pub puts_record : {row numbers' bytes' : List ℕ} → row ≡ xs → numbers' ≡ written numbers (attribute_width * n) row → bytes' ≡ written bytes (4 * attribute_width * n) (bytes_of row) → Puts numbers bytes n xs numbers' bytes'
   puts_record {numbers' = numbers'} {bytes'} i v w = puts_xs (rw i at v) (rw i at w)
     where
-      puts_xs : numbers' ≡ written numbers (attribute_width * n) xs → bytes' ≡ written bytes (4 * (attribute_width * n)) (bytes_of xs) → Puts numbers bytes n xs numbers' bytes'
+      puts_xs : numbers' ≡ written numbers (attribute_width * n) xs → bytes' ≡ written bytes (4 * attribute_width * n) (bytes_of xs) → Puts numbers bytes n xs numbers' bytes'
       puts_xs e f =
           let same = written_keeps numbers (attribute_width * n) xs e in
-          let same_bytes = written_keeps bytes (4 * (attribute_width * n)) (bytes_of xs) f in
+          let same_bytes = written_keeps bytes (4 * attribute_width * n) (bytes_of xs) f in
           record {
             numbers_kept = same;
             bytes_kept = same_bytes;
             behind = λ l m before c w.
-                let b : 4 * (attribute_width * n) ≡ length (bytes_of before) = omega (arith, c, bytes_of_length before) in
+                let b : 4 * attribute_width * n ≡ length (bytes_of before) = omega (arith, c, bytes_of_length before) in
                 record {
                   numbers_kept = same ∙ w.numbers_kept;
                   bytes_kept = same_bytes ∙ w.bytes_kept;

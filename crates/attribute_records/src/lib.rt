@@ -1,13 +1,11 @@
 // The attributes of a type, for a caller: nine numbers for each, or one refusal.
 #![tactic(auto)]
 
-ghost use Rattle.std.specs.Prelude.{◌≡◌, ◌+◌, ◌*◌, ◌-◌, ◌≤◌, ◌<◌, length};
+ghost use Rattle.std.specs.Prelude.{◌≡◌, ◌++◌, ◌+◌, ◌*◌, ◌-◌, ◌≤◌, ◌<◌, length, take, drop};
 ghost use Rattle.rules.specs.Bytes.{ATTCNT, element_limit, type_limit};
 ghost use Rattle.rules.specs.Lent.{numbers, bytes, bytes_of};
-ghost use Rattle.rules.specs.Listing.{attribute_width, Lists};
-ghost use Rattle.layout.specs.Sizes.{ATTRIBUTE_RECORDS};
+ghost use Rattle.rules.specs.Listing.{Lists};
 ghost use Rattle.inputs.specs.Checks.{settings_of};
-ghost use Rattle.numbers.specs.Written.{written};
 ghost use Rattle.list_table.specs.Lists.{Short};
 ghost use Rattle.type_judge.specs.Decides.{answer_of};
 ghost use Rattle.attribute_records.specs.Recorded.{kind_of, detail_of, row_numbers, Puts, PutsList, PutsLists, ListsUnder, Decides};
@@ -17,6 +15,9 @@ use layout::{ATTRIBUTE_RECORD, ELEMENTS, ElementNo, LISTS, NUMBER, RECORDS};
 use list_table::Row;
 use text::{Reading, Refusal};
 use type_judge::Verdict;
+
+// A record as bytes.
+const RECORD_BYTES: usize = NUMBER * ATTRIBUTE_RECORD;
 
 // Which kind x is, where those below m have their own number and all others are m.
 fn kind(x: usize, m: usize) -> u32
@@ -52,24 +53,24 @@ fn row_numbers(e: usize, a: usize, r: Row) -> [u32; ATTRIBUTE_RECORD]
     ]
 }
 
-// The numbers of a record from the i-th number of a buffer on, if they fit.
-fn note_numbers(buffer: &mut [u32], i: usize, row: &[u32])
-    requires { (i < ATTRIBUTE_RECORDS) × (length row.now ≡ attribute_width) }
-    ensures { buffer.new ≡ written buffer.old i row.now }
+// What stands for a record, from the i-th place of a buffer on, if it fits.
+fn note<T: Copy, const N: usize>(buffer: &mut [T], i: usize, row: &[T; N])
+    requires { i + N < 18446744073709551616 }
+    ensures fits { i + N ≤ length buffer.old → buffer.new ≡ take i buffer.old ++ (row.now ++ drop (i + N) buffer.old) }
+    ensures full { length buffer.old < i + N → buffer.new ≡ buffer.old }
 {
-    if i + ATTRIBUTE_RECORD <= buffer.len() {
-        numbers::put_numbers(&mut buffer[i..], row, ATTRIBUTE_RECORD);
+    if i + N <= buffer.len() {
+        buffer[i..i + N].copy_from_slice(row);
     }
 }
 
-// The numbers of a record as four bytes each, low byte first, from the i-th byte of a buffer on, if they fit.
-fn note_bytes(buffer: &mut [u8], i: usize, row: &[u32])
-    requires { (i < 4 * ATTRIBUTE_RECORDS) × (length row.now ≡ attribute_width) }
-    ensures { buffer.new ≡ written buffer.old i (bytes_of row.now) }
+// The numbers of a record as four bytes each, low byte first.
+fn as_bytes(row: &[u32; ATTRIBUTE_RECORD]) -> [u8; RECORD_BYTES]
+    ensures { result ≡ bytes_of row.now }
 {
-    if i + NUMBER * ATTRIBUTE_RECORD <= buffer.len() {
-        numbers::put_bytes(&mut buffer[i..], row, ATTRIBUTE_RECORD);
-    }
+    let mut bytes = [0; RECORD_BYTES];
+    numbers::put_bytes(&mut bytes, row, ATTRIBUTE_RECORD);
+    bytes
 }
 
 // The record of the attribute a of the element e, behind n records, to each buffer that it fits. What a buffer holds that is too small for all records is not decided.
@@ -78,9 +79,8 @@ fn put_record(numbers: &mut [u32], bytes: &mut [u8], n: usize, e: usize, a: usiz
     ensures { Puts numbers.old bytes.old n (row_numbers e a r) numbers.new bytes.new }
 {
     let row = row_numbers(e, a, r);
-    let i = ATTRIBUTE_RECORD * n;
-    note_numbers(numbers, i, &row);
-    note_bytes(bytes, NUMBER * i, &row);
+    note(numbers, ATTRIBUTE_RECORD * n, &row);
+    note(bytes, RECORD_BYTES * n, &as_bytes(&row));
 }
 
 // The records of the attributes of the element e, behind n records; how many there are then.

@@ -1,20 +1,14 @@
 -- `put_record` puts the nine numbers to each buffer.
+use Prim.Native.Nat.{◌*◌}
+use mathlib.Core.Path.{refl}
+use Rattle.event_buffer.specs.EventByEvent.{written_so}
 use Rattle.attribute_records.specs.ListByList.{puts_record}
 use Rattle.attribute_records.proofs.put_record.Goals as goal
-use Rattle.attribute_records.proofs.put_record.Tie as tie
-use Rattle.attribute_records.proofs.put_record.Lts as lts
-use Rattle.attribute_records.proofs.put_record.Reads as reads
-
-abbrev After-note_numbers : Type 0
-After-note_numbers = lts.After-note_numbers tie.the-claims reads.Pre reads.Post
-
-abbrev After-row2 : Type 0
-After-row2 = lts.After-row2 tie.the-claims reads.Pre reads.Post
-
--- The point that the needs go back to.
-abbrev at-note-numbers : (c : After-row2) → After-note_numbers
-at-note-numbers c = c.before.before.before.before
 
 pub returns : goal.returns
-returns c = let note-numbers = at-note-numbers c.before.before.before.before in
-    puts_record _ _ _ _ note-numbers.row_numbers-row.ensures note-numbers.note_numbers.ensures c.note_bytes.ensures
+returns c =
+    let a = c.args in
+    let row = c.row_numbers-row in
+    let noted = written_so a.numbers.now (9 * a.n) row.result c.told-row refl c.note.ensures.fits c.note.ensures.full in
+    let stored = written_so a.bytes.now (36 * a.n) _ ? c.as_bytes.ensures c.note-2.ensures.fits c.note-2.ensures.full in
+    puts_record a.numbers.now a.bytes.now a.n _ row.ensures noted stored
