@@ -1,6 +1,6 @@
 -- What the table of lists says, and what the loops over it find.
 use Prim.Native.Nat.{ℕ, zero, suc, ◌+◌, ◌*◌, ◌≤◌, ◌<◌}
-use Rattle.std.specs.Prelude.{◌≡◌, Bool, false, ◌||◌, ◌⊎◌, length, get_or, set, eqb}
+use Rattle.std.specs.Prelude.{◌≡◌, Option, Some, None, is_some, IfSome, Bool, false, ◌||◌, ◌⊎◌, length, get_or, set, eqb}
 use Rattle.std.proofs.Math.Path.{refl, sym, ap}
 use Rattle.std.proofs.Common.{◌∙◌, subst, true≢false, inl, inr, length-append, length-set, get_or-set_same, get_or-set_other, eq-eqb, ne_eqb, le-leb}
 use Rattle.std.proofs.Math.Bool.{true, or-true}
@@ -11,9 +11,10 @@ use Rattle.std.proofs.lemmas.Bool.{lt-leb}
 use Rattle.rules.specs.Bytes.{same_text, ATTCNT}
 use Rattle.rules.specs.Attributes.{required, implied, literal, Attribute, is_called, attribute_from, attribute_of, attribute_at, is_required, needs_tag}
 use Rattle.layout.specs.Sizes.{ATTRIBUTE, LIST}
+use Rattle.layout.specs.declared.AttributeNo.{AttributeNo}
 use Rattle.attribute_defaults.specs.DefaultOf.{default_is}
 use Rattle.list_table.specs.declared.Row.{Row}
-use Rattle.list_table.specs.Lists.{row_in, RowOf, is_named, ListAt, Copied}
+use Rattle.list_table.specs.Lists.{row_in, RowOf, is_named, number_of, ListAt, Copied}
 
 pub get_d_past : (l : List ℕ) (i : ℕ) → length l ≤ i → 0 ≡ get_or l i 0
 get_d_past [] i h = refl
@@ -141,6 +142,19 @@ module _ (s t : List ℕ) (at size : ℕ) where
       pub named_none : (k n : ℕ) → n ≡ length xs → k ≤ n → n ≤ k → NoneNamed l b k → 0 ≡ attribute_of s xs t at size
       unfolding attribute_of
       named_none k n m g h w = sym (from_none 1 xs (λ j i. before k (omega (arith, g, m)) w j (omega (arith, i, h, m))))
+
+-- An attribute that was looked for is found or not.
+pub number_none : (r : Option AttributeNo) → ((a : AttributeNo) → r ≡ Some a → ⊥) → number_of r ≡ 0
+number_none None h = refl
+number_none (Some a) h = absurd (h a refl)
+
+pub number_not : (r : Option AttributeNo) {b : Bool} → b ≡ is_some r → b ≡ false → number_of r ≡ 0
+number_not None e h = refl
+number_not (Some a) e h = absurd (true≢false (sym e ∙ h))
+
+pub number_some : (r : Option AttributeNo) {b : Bool} → IfSome r (λ a. (1 ≤ a.0) × (a.0 ≤ ATTCNT)) → b ≡ is_some r → b ≡ true → number_of r ≡ 0 → ⊥
+number_some None w e h z = true≢false (sym h ∙ e)
+number_some (Some a) w e h z = omega (arith, w, z)
 
 -- A row is called so, by the tests that the code makes.
 module _ (s : List ℕ) (r : Row) (t : List ℕ) (at size : ℕ) where

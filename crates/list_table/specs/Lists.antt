@@ -1,10 +1,11 @@
 -- The attribute lists of a type as the table holds them: of each element LIST numbers.
-use Rattle.std.specs.Prelude.{ℕ, ◌+◌, ◌*◌, ◌≤◌, ◌<◌, ◌≡◌, Bool, true, false, ◌⊎◌, List, length, get_or, eqb, leb}
+use Rattle.std.specs.Prelude.{ℕ, Option, Some, None, ◌+◌, ◌*◌, ◌≤◌, ◌<◌, ◌≡◌, Bool, true, false, ◌⊎◌, List, length, get_or, eqb, leb}
 use Rattle.rules.specs.Bytes.{same_text, ATTCNT}
 use Rattle.rules.specs.Attributes.{Attribute, attribute_at}
 use Rattle.rules.specs.TypeFile.{Element}
 use Rattle.rules.specs.Elements.{element_at}
 use Rattle.layout.specs.Sizes.{ATTRIBUTE, LIST}
+use Rattle.layout.specs.declared.AttributeNo.{AttributeNo}
 use Rattle.attribute_values.specs.Parts.{DeclaredAs}
 use Rattle.attribute_defaults.specs.DefaultOf.{default_is}
 use Rattle.list_table.specs.declared.Row.{Row}
@@ -28,6 +29,11 @@ pub record RowOf (long : ℕ) (s : List ℕ) (r : Row) (x : Attribute) : Type 0 
 -- The attribute of a row, if its name lies in the type file, has the name of this size at `at` in the text t, folded.
 abbrev pub is_named : List ℕ → Row → (t : List ℕ) (at size : ℕ) → Bool
 is_named s r t at size = elim (eqb r.size size) [ true ↦ elim (leb (r.name + size) (length s)) [ true ↦ same_text s r.name t at size | false ↦ false ] | false ↦ false ]
+
+-- The number of an attribute that was looked for, from 1; 0 for none.
+abbrev pub number_of : Option AttributeNo → ℕ
+number_of None = 0
+number_of (Some a) = a.0
 
 -- The list that begins at b: how many attributes there are, then a row for each.
 pub record ListAt (long : ℕ) (s l : List ℕ) (b : ℕ) (xs : List Attribute) : Type 0 where

@@ -7,13 +7,13 @@
 // Whatever the table holds, each function ends and stays within it.
 #![tactic(auto)]
 
-ghost use Rattle.std.specs.Prelude.{◌≡◌, List, [], ◌∷◌, ◌++◌, ℕ, ◌+◌, ◌*◌, ◌-◌, ◌≤◌, ◌<◌, length, get_or};
+ghost use Rattle.std.specs.Prelude.{◌≡◌, List, [], ◌∷◌, ◌++◌, ℕ, ◌+◌, ◌*◌, ◌-◌, ◌≤◌, ◌<◌, length, get_or, IfSome};
 ghost use Rattle.rules.specs.Bytes.{ATTCNT, element_limit};
 ghost use Rattle.rules.specs.Attributes.{Attribute, attribute_of, needs_tag};
 ghost use Rattle.layout.specs.Sizes.{ATTRIBUTE, LIST, LISTS};
-ghost use Rattle.list_table.specs.Lists.{row_in, Short, RowOf, is_named, ListAt, Copied};
+ghost use Rattle.list_table.specs.Lists.{row_in, Short, RowOf, is_named, number_of, ListAt, Copied};
 
-use layout::{ATTCNT, ATTRIBUTE, ElementNo, LIST};
+use layout::{ATTCNT, ATTRIBUTE, AttributeNo, ElementNo, LIST};
 
 // What is kept of an attribute.
 #[derive(Clone, Copy, Debug, PartialEq, Eq)]
@@ -72,17 +72,11 @@ pub fn attribute(lists: &[u16], e: ElementNo, k: usize) -> Row
     row_at(lists, LIST * (e.0 - 1) + 1 + ATTRIBUTE * k)
 }
 
-// The list has room for so many numbers.
-fn whole(list: [u16; LIST])
-    ensures { length list ≡ LIST }
-{}
-
 // The attribute k of a list by itself, from 0, which had k before.
 pub fn put_attribute(list: &mut [u16; LIST], k: usize, r: Row)
     requires { (k < ATTCNT) × Short r }
     ensures { (long : ℕ) (s : List ℕ) (xs : List Attribute) (x : Attribute) → length xs ≡ k → ListAt long s list.old 0 xs → RowOf long s r x → ListAt long s list.new 0 (xs ++ x ∷ []) }
 {
-    whole(*list);
     let i = 1 + ATTRIBUTE * k;
     list[i] = r.name as u16;
     list[i + 1] = r.size as u16;
@@ -97,14 +91,11 @@ pub fn put_list(lists: &mut [u16], k: usize, list: &[u16; LIST])
     requires { (k < element_limit) × (length lists.old ≡ LISTS) }
     ensures { Copied list.now (LIST * k) lists.old lists.new }
 {
-    whole(*list);
     let from = LIST * k;
     let one = ElementNo(1);
     let end = 1 + ATTRIBUTE * count(list, one);
-    let mut i = 0;
-    while i < end {
+    for i in 0..end {
         lists[from + i] = list[i];
-        i += 1;
     }
 }
 
@@ -113,13 +104,10 @@ pub fn needs_tag(lists: &[u16], e: ElementNo) -> bool
     requires { (1 ≤ e.0) × (e.0 ≤ element_limit) }
     ensures { (long : ℕ) (s : List ℕ) (xs : List Attribute) → ListAt long s lists.now (LIST * (e.0 - 1)) xs → result ≡ needs_tag xs }
 {
-    let n = count(lists, e);
-    let mut k = 0;
-    while k < n {
+    for k in 0..count(lists, e) {
         if attribute(lists, e, k).default == 0 {
             return true;
         }
-        k += 1;
     }
     false
 }
@@ -138,19 +126,15 @@ fn is_named(s: &[u8], r: Row, t: &[u8], at: usize, size: usize) -> bool
     words::same_within(s, r.name, t, at, size)
 }
 
-// The number of the attribute of the element e that has the name of this size at `at` in the text t, from 1; 0 if none has.
-pub fn find(s: &[u8], lists: &[u16], e: ElementNo, t: &[u8], at: usize, size: usize) -> usize
+// The attribute of the element e that has the name of this size at `at` in the text t.
+pub fn find(s: &[u8], lists: &[u16], e: ElementNo, t: &[u8], at: usize, size: usize) -> Option<AttributeNo>
     requires { (1 ≤ e.0) × (e.0 ≤ element_limit) × (at + size ≤ length t.now) × (length t.now < 4294967296) }
-    ensures { ((long : ℕ) (xs : List Attribute) → ListAt long s.now lists.now (LIST * (e.0 - 1)) xs → result ≡ attribute_of s.now xs t.now at size) × (result ≤ ATTCNT) }
+    ensures { ((long : ℕ) (xs : List Attribute) → ListAt long s.now lists.now (LIST * (e.0 - 1)) xs → number_of result ≡ attribute_of s.now xs t.now at size) × IfSome result (λ a. (1 ≤ a.0) × (a.0 ≤ ATTCNT)) }
 {
-    let n = count(lists, e);
-    let mut k = 0;
-    while k < n {
-        let r = attribute(lists, e, k);
-        if is_named(s, r, t, at, size) {
-            return k + 1;
+    for k in 0..count(lists, e) {
+        if is_named(s, attribute(lists, e, k), t, at, size) {
+            return Some(AttributeNo(k + 1));
         }
-        k += 1;
     }
-    0
+    None
 }

@@ -1,12 +1,8 @@
 -- `needs_tag` meets its contract. The invariant: none of the attributes before the k-th is required.
-use Prim.Native.Nat.{◌*◌, ◌-◌, ◌≤◌}
-use Rattle.rules.specs.Bytes.{ATTCNT}
+use Prim.Native.Nat.{◌*◌, ◌-◌}
 use Rattle.layout.specs.Sizes.{LIST}
 use Rattle.list_table.specs.Finds.{NoneRequired}
 use Rattle.list_table.proofs.needs_tag.Given as goal
 
 abbrev pub invariant-loop-k : goal.invariant-loop-k
-invariant-loop-k l = (l.k ≤ l.n) × (l.n ≤ ATTCNT) × NoneRequired l.lists (LIST * (l.e.0 - 1)) l.k
-
-abbrev pub decreases-loop-k : goal.decreases-loop-k
-decreases-loop-k l = l.n - l.k
+invariant-loop-k l = NoneRequired l.lists (LIST * (l.e.0 - 1)) l.k

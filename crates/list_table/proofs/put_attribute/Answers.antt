@@ -5,4 +5,4 @@ use Rattle.list_table.proofs.put_attribute.Goals as goal
 
 pub returns : goal.returns
 returns c = let a = c.args in
-    list_put a.list.now a.k a.r c.whole.ensures (omega arith)
+    list_put a.list.now a.k a.r c.told-list (omega arith)
