@@ -46,7 +46,7 @@ fn name_at(long: usize, s: &[u8], list: &[u16; LIST], n: usize, from: usize, i: 
         return Err(Refusal::Malformed.at(i));
     }
     let one = ElementNo(1);
-    if list_table::find(s, list, one, s, i, e - i) != 0 {
+    if list_table::find(s, list, one, s, i, e - i).is_some() {
         return Err(Refusal::DeclaredTwice.at(i));
     }
     if ATTCNT <= n {

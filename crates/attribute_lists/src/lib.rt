@@ -3,7 +3,7 @@
 // `heads` has for each element where its name ends in its list, or 0 where it has none.
 #![tactic(auto)]
 
-ghost use Rattle.std.specs.Prelude.{◌≡◌, List, ℕ, ◌+◌, ◌*◌, ◌≤◌, ◌<◌, length, replicate};
+ghost use Rattle.std.specs.Prelude.{◌≡◌, List, ℕ, ◌+◌, ◌*◌, ◌≤◌, ◌<◌, length, replicate, IfSome};
 ghost use Rattle.rules.specs.Attributes.{AttList};
 ghost use Rattle.rules.specs.TypeFile.{same_name, declared_from, listed_element, attribute_list, attributes_of};
 ghost use Rattle.rules.specs.TypeFile as rules;
@@ -12,7 +12,7 @@ ghost use Rattle.layout.specs.Sizes.{LIST, LISTS};
 ghost use Rattle.element_names.specs.Names.{Recorded, name_at};
 ghost use Rattle.list_table.specs.Lists.{ListAt};
 ghost use Rattle.list_definitions.specs.ListAs.{ListIn};
-ghost use Rattle.attribute_lists.specs.Listed.{Headed, any_in, listed_of, ListedFits, MeetsLists, Again};
+ghost use Rattle.attribute_lists.specs.Listed.{Headed, any_in, number_of, listed_of, ListedFits, MeetsLists, Again};
 
 use layout::{ELEMENTS, ElementNo, LIST, RECORD, RECORDS};
 use text::{Reading, Refusal};
@@ -36,19 +36,23 @@ fn is_same(s: &[u8], elements: &[u32; RECORDS], k: usize, at: usize, size: usize
     words::same_text(s, numbers::widened(elements[RECORD * k]), s, at, size)
 }
 
-// The number of the element with the name of this size at `at`, or 0.
-fn element_of(s: &[u8], elements: &[u32; RECORDS], count: usize, at: usize, size: usize) -> usize
+// The element with the name of this size at `at`.
+fn element_of(
+    s: &[u8],
+    elements: &[u32; RECORDS],
+    count: usize,
+    at: usize,
+    size: usize,
+) -> Option<ElementNo>
     requires { (count ≤ element_limit) × (at < 4294967296) × (size < 4294967296) }
-    ensures { ((es : List rules.Element) → length es ≡ count → Recorded elements.now es → result ≡ declared_from 1 s.now es at size) × (result ≤ count) }
+    ensures { ((es : List rules.Element) → length es ≡ count → Recorded elements.now es → number_of result ≡ declared_from 1 s.now es at size) × IfSome result (λ e. (1 ≤ e.0) × (e.0 ≤ count)) }
 {
-    let mut k = 0;
-    while k < count {
+    for k in 0..count {
         if is_same(s, elements, k, at, size) {
-            return k + 1;
+            return Some(ElementNo(k + 1));
         }
-        k += 1;
     }
-    0
+    None
 }
 
 // The element whose name stands at i.
@@ -75,23 +79,17 @@ fn listed_at(
     if long < e - i {
         return Err(Refusal::NameTooLong.at(i));
     }
-    let k = element_of(s, elements, count, i, e - i);
-    if k == 0 {
+    let Some(k) = element_of(s, elements, count, i, e - i) else {
         return Err(Refusal::Undeclared.at(i));
-    }
-    if heads[k - 1] != 0 {
+    };
+    if heads[k.0 - 1] != 0 {
         return Err(Refusal::Attribute.at(i));
     }
     Ok(Head {
-        element: ElementNo(k),
+        element: k,
         at: e,
     })
 }
-
-// There is a head for each element.
-fn whole(heads: [u16; ELEMENTS])
-    ensures { length heads ≡ element_limit }
-{}
 
 // An attribute definition list declaration whose keyword ends at `at`, after the elements recorded in `elements` and the lists in `heads`, and where it ends. Where it is
 // refused, what `heads` holds is not decided.
@@ -111,7 +109,6 @@ pub fn list_at(
     let l = listed_at(long, s, i, elements, count, heads)?;
     let mut list = [0u16; LIST];
     let e = list_definitions::definitions_at(long, s, l.at, &mut list)?;
-    whole(*heads);
     let h = l.element.0 - 1;
     heads[h] = l.at as u16;
     Ok(e)
@@ -122,14 +119,7 @@ pub fn has_any(heads: &[u16; ELEMENTS], n: usize) -> bool
     requires { n ≤ element_limit }
     ensures { result ≡ any_in heads.now n }
 {
-    let mut k = 0;
-    while k < n {
-        if heads[k] != 0 {
-            return true;
-        }
-        k += 1;
-    }
-    false
+    heads[..n].iter().any(|h| *h != 0)
 }
 
 // Puts the list of the k-th element, from 0, whose head is `from`, into the table. A head that is no place behind a keyword is no type's.
@@ -154,9 +144,7 @@ pub fn fill(long: usize, s: &[u8], heads: &[u16; ELEMENTS], n: usize, lists: &mu
     requires { (n ≤ element_limit) × (length s.now ≤ type_limit) × (lists.old ≡ replicate LISTS 0) }
     ensures { (ls : List AttList) → Headed long s.now heads.now ls → (k : ℕ) → k < n → ListAt long s.now lists.new (LIST * k) (attributes_of ls (k + 1)) }
 {
-    let mut k = 0;
-    while k < n {
+    for k in 0..n {
         read_again(long, s, numbers::short(heads[k]), k, lists);
-        k += 1;
     }
 }

@@ -21,21 +21,13 @@ use layout::{ElementNo, GIVEN, MARKS};
 use tag_attributes::Written;
 use text::{Reading, Refusal};
 
-// The marks have room for so many numbers.
-fn whole(marks: [u16; MARKS])
-    ensures { length marks ≡ MARKS }
-{}
-
 // None of the first n attributes is written.
 fn clear(marks: &mut [u16; MARKS], n: usize)
     requires { n ≤ ATTCNT }
     ensures { (k : ℕ) → k < n → get_or marks.new (2 * k) 0 ≡ 0 }
 {
-    whole(*marks);
-    let mut k = 0;
-    while k < n {
+    for k in 0..n {
         marks[2 * k] = 0;
-        k += 1;
     }
 }
 
@@ -53,15 +45,13 @@ fn mark(
     ensures { (xs : List Attribute) (before : List rules.Written) → ListAt long s.now lists.now (LIST * (e.0 - 1)) xs → NamesDiffer s.now xs → Marked s.now xs d.now before marks.old →
         Marks long s.now xs d.now before (written_as w) marks.new result }
 {
-    let a = list_table::find(s, lists, e, d, w.name, w.size);
-    if a == 0 {
+    let Some(a) = list_table::find(s, lists, e, d, w.name, w.size) else {
         return Err(Refusal::Attribute);
-    }
-    let k = a - 1;
+    };
+    let k = a.0 - 1;
     if marks[2 * k] != 0 {
         return Err(Refusal::Attribute);
     }
-    whole(*marks);
     let from = w.quote + 1;
     marks[2 * k] = from as u16;
     marks[2 * k + 1] = w.width as u16;
@@ -112,14 +102,10 @@ fn is_missing(lists: &[u16], e: ElementNo, n: usize, marks: &[u16; MARKS]) -> bo
     ensures { (long : ℕ) (s d : List ℕ) (xs : List Attribute) (ws : List rules.Written) → ListAt long s lists.now (LIST * (e.0 - 1)) xs → n ≡ length xs → Marked s xs d ws marks.now →
         (at : ℕ) → none_missing s xs d at ws ≡ elim result [ true ↦ refused 21 at | false ↦ got tt ] }
 {
-    let mut k = 0;
-    while k < n {
-        if marks[2 * k] == 0 {
-            if list_table::attribute(lists, e, k).default == 0 {
-                return true;
-            }
+    for k in 0..n {
+        if marks[2 * k] == 0 && list_table::attribute(lists, e, k).default == 0 {
+            return true;
         }
-        k += 1;
     }
     false
 }

@@ -3,10 +3,10 @@ use Rattle.attribute_marks.specs.Marking.{cleared_first, cleared_turn}
 use Rattle.attribute_marks.proofs.clear.Goals as goal
 
 pub loop-k-init : goal.loop-k-init
-loop-k-init c = (omega arith, omega arith, cleared_first _ (omega arith))
+loop-k-init c = (omega arith, cleared_first _ c.told-marks)
 
 pub loop-k-preserved : goal.loop-k-preserved
-loop-k-preserved c = (omega arith, omega arith, cleared_turn _ _ (omega arith) c.loop-k.invariant.2)
+loop-k-preserved c = (omega arith, cleared_turn _ _ (omega arith) c.loop-k.invariant.1)
 
 pub returns : goal.returns
-returns c = λ k h. c.loop-k.invariant.2.none k (omega arith)
+returns c = λ k h. c.loop-k.invariant.1.none k (omega arith)

@@ -1,11 +1,8 @@
 -- `clear` meets its contract. The invariant: none of the first k attributes is marked.
-use Prim.Native.Nat.{◌-◌, ◌≤◌}
+use Prim.Native.Nat.{◌≤◌}
 use Rattle.rules.specs.Bytes.{ATTCNT}
 use Rattle.attribute_marks.specs.Marking.{Cleared}
 use Rattle.attribute_marks.proofs.clear.Given as goal
 
 abbrev pub invariant-loop-k : goal.invariant-loop-k
-invariant-loop-k l = (l.k ≤ l.n) × (l.n ≤ ATTCNT) × Cleared l.marks l.k
-
-abbrev pub decreases-loop-k : goal.decreases-loop-k
-decreases-loop-k l = l.n - l.k
+invariant-loop-k l = (l.n ≤ ATTCNT) × Cleared l.marks l.k

@@ -6,7 +6,4 @@ use Rattle.attribute_marks.specs.Missing.{NoneMissing}
 use Rattle.attribute_marks.proofs.is_missing.Given as goal
 
 abbrev pub invariant-loop-k : goal.invariant-loop-k
-invariant-loop-k l = (l.k ≤ l.n) × (l.n ≤ ATTCNT) × NoneMissing l.lists (LIST * (l.e.0 - 1)) l.marks l.k
-
-abbrev pub decreases-loop-k : goal.decreases-loop-k
-decreases-loop-k l = l.n - l.k
+invariant-loop-k l = (l.n ≤ ATTCNT) × NoneMissing l.lists (LIST * (l.e.0 - 1)) l.marks l.k

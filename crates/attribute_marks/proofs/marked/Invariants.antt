@@ -6,7 +6,4 @@ use Rattle.attribute_marks.specs.Turns.{Going}
 use Rattle.attribute_marks.proofs.marked.Given as goal
 
 abbrev pub invariant-loop-k : goal.invariant-loop-k
-invariant-loop-k l = (l.k ≤ l.n) × (l.n ≤ ATTCNT + 1) × Going l.long l.s l.lists (LIST * (l.e.0 - 1)) l.d l.given l.initial.marks l.k l.marks l.misfit
-
-abbrev pub decreases-loop-k : goal.decreases-loop-k
-decreases-loop-k l = l.n - l.k
+invariant-loop-k l = (l.n ≤ ATTCNT + 1) × Going l.long l.s l.lists (LIST * (l.e.0 - 1)) l.d l.given l.initial.marks l.k l.marks l.misfit
