@@ -1,12 +1,12 @@
 -- An attribute definition by the tests that the code makes.
-use Rattle.std.specs.Prelude.{ℕ, Result, Ok, Err, zero, suc, ◌+◌, ◌-◌, ◌≤◌, ◌<◌, ◌≡◌, Bool, true, false, List, [], ◌∷◌, ◌++◌, length, eqb}
+use Rattle.std.specs.Prelude.{ℕ, Result, Ok, Err, zero, suc, ◌-◌, ◌≤◌, ◌<◌, ◌≡◌, Bool, true, false, List, [], ◌∷◌, ◌++◌, length, eqb}
 use Rattle.std.proofs.Math.Path.{refl}
 use Rattle.std.proofs.Common.{sym, ◌∙◌, ap, append-nil, append_assoc, arith}
 use borrow.Author.Tests.{eq-eqb, ne_eqb, lt-ltb, le-ltb, le-leb, lt-leb}
-use Rattle.rules.specs.Bytes.{byte_at, letter, name_end, ATTCNT, GRPCNT, GRPO}
+use Rattle.rules.specs.Bytes.{byte_at, letter, name_end, ATTCNT, GRPO}
 use Rattle.rules.specs.Reading.{Reading, refused, got}
 use Rattle.rules.specs.Attributes.{Part, DeclaredValue, cdata, number, name, tokens, Attribute, attribute_of}
-use Rattle.rules.specs.TypeFile.{gap, is_word, is_cut, CDATA, NUMBER, NAME, unfit, TokensEnd, token_group, tokens_of, attribute_name, ValueEnd, value_word, declared_value, DefaultEnd, default_value, definition}
+use Rattle.rules.specs.TypeFile.{gap, is_word, is_cut, CDATA, NUMBER, NAME, unfit, token_group, tokens_of, attribute_name, ValueEnd, value_word, declared_value, DefaultEnd, default_value, definition}
 use Rattle.text.specs.declared.Fault.{Fault}
 use Rattle.text.specs.Refusal.{refusal_of}
 use Rattle.text.specs.Words.{test_in}

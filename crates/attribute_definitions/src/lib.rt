@@ -33,7 +33,14 @@ pub struct Defined {
 }
 
 // The name at i, a letter, after n attributes of the list, and where it ends. The parameter before ended at `from`.
-fn name_at(long: usize, s: &[u8], list: &[u16; LIST], n: usize, from: usize, i: usize) -> Reading<usize>
+fn name_at(
+    long: usize,
+    s: &[u8],
+    list: &[u16; LIST],
+    n: usize,
+    from: usize,
+    i: usize,
+) -> Reading<usize>
     requires { (i ≤ length s.now) × (length s.now ≤ type_limit) × (n ≤ ATTCNT) }
     ensures result_value { (xs : List Attribute) → length xs ≡ n → ListAt long s.now list.now 0 xs → reached result ≡ attribute_name long s.now xs from i }
     ensures name_fits { NameFits (length s.now) i n result }
@@ -98,7 +105,13 @@ fn word_at(long: usize, s: &[u8], i: usize, m: usize) -> Reading<Declared>
 }
 
 // The declared value at i, in a list that has m tokens so far.
-fn value_at(long: usize, s: &[u8], i: usize, seen: &mut [u16; TOKENS], m: usize) -> Reading<Declared>
+fn value_at(
+    long: usize,
+    s: &[u8],
+    i: usize,
+    seen: &mut [u16; TOKENS],
+    m: usize,
+) -> Reading<Declared>
     requires { (3 ≤ i) × (i ≤ length s.now) × (length s.now ≤ type_limit) × (m + GRPCNT ≤ GRPCNT * ATTCNT) }
     ensures meets_value { MeetsValue long s.now seen.new (parts_of seen.old m) result (declared_value long s.now (parts_of seen.old m) i) }
     ensures value_fits { ValueFits (length s.now) i m result }

@@ -7,7 +7,7 @@ use mathlib.Core.List.{List, [], ◌∷◌, ◌++◌}
 use Rattle.std.proofs.Math.Decide.{ℕ_discrete}
 use Rattle.std.proofs.lemmas.List.{length-replicate, get_or-replicate}
 use Rattle.std.proofs.Math.Dec.{eqb}
-use Rattle.rules.specs.Reading.{Reading, got, and_then}
+use Rattle.rules.specs.Reading.{got, and_then}
 use Rattle.rules.specs.Attributes.{Attribute, AttList}
 use Rattle.rules.specs.TypeFile.{gap, ListEnd, list_from, is_listed, Listed, listed_element, attribute_list, attributes_of, listed}
 use Rattle.rules.specs.TypeFile as rules
@@ -16,7 +16,6 @@ use Rattle.rules.specs.Bytes.{element_limit}
 use Rattle.text.specs.declared.Fault.{Fault}
 use Rattle.text.specs.Refusal.{refusal_of}
 use Rattle.layout.specs.Sizes.{LIST, LISTS}
-use Rattle.layout.specs.declared.ElementNo.{ElementNo}
 use Rattle.list_table.specs.Lists.{ListAt, Lists, Copied}
 use Rattle.list_definitions.specs.ListAs.{ListAs, MeetsList}
 use Rattle.attribute_lists.specs.Listed.{HeadRead, Headed, HeadedAs, any_in, ListsAs, Again}

@@ -30,6 +30,10 @@ pub record HeadedAs (long : ℕ) (s heads : List ℕ) (es : List rules.Element) 
   pub headed : Headed long s heads lists
   pub each : (k : ℕ) → k < length es → (element_at es k).attributes ≡ attributes_of lists (k + 1)
 
+-- It is a head, and not 0 for none.
+abbrev pub is_head : ℕ → Bool
+is_head h = not (eqb h 0)
+
 -- One of the first n elements has a list.
 unfoldable pub any_in : List ℕ → (n : ℕ) → Bool
 any_in heads zero = false

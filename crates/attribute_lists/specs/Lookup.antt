@@ -1,12 +1,13 @@
 -- Which element a list is for: a search through the records.
 use Prim.Native.Nat.{ℕ, zero, suc, ◌+◌, ◌-◌, ◌*◌, ◌≤◌, ◌<◌}
-use Rattle.std.specs.Prelude.{◌≡◌, Bool, true, false, not, ◌||◌, get_or, eqb}
+use Rattle.std.specs.Prelude.{◌≡◌, Option, Some, None, Bool, true, false, not, ◌||◌, get_or, eqb}
 use Rattle.std.proofs.Math.Path.{refl, sym}
-use Rattle.std.proofs.Common.{◌∙◌, ap, add-one, arith}
-use Rattle.std.proofs.Math.Bool.{or-true}
+use Rattle.std.proofs.Common.{◌∙◌, ap, arith}
+use Rattle.std.specs.List.{list_any}
+use Rattle.std.proofs.Math.Bool.{or-false, or_assoc, or-true}
 use mathlib.Core.List.{List, [], ◌∷◌}
 use Rattle.std.proofs.Math.Decide.{ℕ_discrete}
-use Rattle.std.proofs.Math.ListN.{length, drop}
+use Rattle.std.proofs.Math.ListN.{length, take, drop}
 use borrow.Author.Tests.{eq-eqb, ne_eqb, lt-ltb, le-ltb, le-leb, lt-leb}
 use Rattle.rules.specs.Bytes.{byte_at, letter, name_end, same_text, GRPO, element_limit}
 use Rattle.rules.specs.Reading.{refused, got}
@@ -14,9 +15,10 @@ use Rattle.rules.specs.Attributes.{AttList}
 use Rattle.rules.specs.TypeFile.{same_name, unfit, declared_from, is_listed, listed_element}
 use Rattle.rules.specs.TypeFile as rules
 use Rattle.rules.specs.Judge.{record_width}
+use Rattle.layout.specs.declared.ElementNo.{ElementNo}
 use Rattle.element_names.specs.Names.{Recorded, name_at}
 use Rattle.element_names.specs.Records.{RecordAt, recorded_at}
-use Rattle.attribute_lists.specs.Listed.{Headed, any_in}
+use Rattle.attribute_lists.specs.Listed.{Headed, is_head, any_in, number_of}
 
 -- A name of the table and another, by what is read of it.
 module _ (s elements : List ℕ) (k at size m : ℕ) (sized : m ≡ get_or elements (record_width * k + 1) 0) where
@@ -66,6 +68,11 @@ module _ (s elements : List ℕ) (at size : ℕ) (es : List rules.Element) where
         let q : declared_from (k + 1) s (one.element ∷ drop (k + 1) es) at size ≡ declared_from (k + 1 + 1) s (drop (k + 1) es) at size = rw (here ∙ e, declared_from) in
         record { answer = sym q ∙ step }
 
+-- An element that was looked for is found or not.
+pub number_none : (r : Option ElementNo) → ((e : ElementNo) → r ≡ Some e → ⊥) → number_of r ≡ 0
+number_none None h = refl
+number_none (Some e) h = absurd (h e refl)
+
 -- The element of a list, by the tests that the code makes.
 
 pub listed_head : (long : ℕ) (s heads : List ℕ) (ls : List AttList) (k : ℕ) → Headed long s heads ls → 1 ≤ k → k ≤ element_limit → is_listed ls k ≡ not (eqb (get_or heads (k - 1) 0) 0)
@@ -104,15 +111,17 @@ module _ (long : ℕ) (s : List ℕ) (es : List rules.Element) (ls : List AttLis
 
 -- An element may have a list.
 
-pub any_none : (heads : List ℕ) → any_in heads 0 ≡ false
+any_cons : (h : ℕ) (heads : List ℕ) (n : ℕ) → any_in (h ∷ heads) (suc n) ≡ (is_head h || any_in heads n)
 unfolding any_in
-any_none heads = refl
+any_cons h heads zero = sym (or-false (is_head h))
+any_cons h heads (suc n) = ap (λ b. b || is_head (get_or heads n 0)) (any_cons h heads n) ∙ or_assoc (is_head h) (any_in heads n) (is_head (get_or heads n 0))
 
-pub any_turn : (heads : List ℕ) (k : ℕ) → any_in heads k ≡ false → get_or heads k 0 ≡ 0 → any_in heads (k + 1) ≡ false
+pub any_taken : (heads : List ℕ) (n : ℕ) → n ≤ length heads → list_any is_head (take n heads) ≡ any_in heads n
 unfolding any_in
-any_turn heads k e h =
-    let q : any_in heads (suc k) ≡ false = ap (λ b. b || not (eqb (get_or heads k 0) 0)) e ∙ ap not (eq-eqb _ _ h) in
-    rw (add-one k) q
+any_taken [] zero l = refl
+any_taken [] (suc n) l = absurd (omega (arith, l))
+any_taken (h ∷ heads) zero l = refl
+any_taken (h ∷ heads) (suc n) l = ap (λ b. is_head h || b) (any_taken heads n (omega (arith, l))) ∙ sym (any_cons h heads n)
 
 pub any_found : (heads : List ℕ) (k n : ℕ) → k < n → (get_or heads k 0 ≡ 0 → ⊥) → any_in heads n ≡ true
 unfolding any_in

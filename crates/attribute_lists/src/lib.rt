@@ -3,6 +3,7 @@
 // `heads` has for each element where its name ends in its list, or 0 where it has none.
 #![tactic(auto)]
 
+ghost use Rattle.std.specs.List.{list_any};
 ghost use Rattle.std.specs.Prelude.{◌≡◌, List, ℕ, ◌+◌, ◌*◌, ◌≤◌, ◌<◌, length, replicate, IfSome};
 ghost use Rattle.rules.specs.Attributes.{AttList};
 ghost use Rattle.rules.specs.TypeFile.{same_name, declared_from, listed_element, attribute_list, attributes_of};
@@ -12,7 +13,7 @@ ghost use Rattle.layout.specs.Sizes.{LIST, LISTS};
 ghost use Rattle.element_names.specs.Names.{Recorded, name_at};
 ghost use Rattle.list_table.specs.Lists.{ListAt};
 ghost use Rattle.list_definitions.specs.ListAs.{ListIn};
-ghost use Rattle.attribute_lists.specs.Listed.{Headed, any_in, number_of, listed_of, ListedFits, MeetsLists, Again};
+ghost use Rattle.attribute_lists.specs.Listed.{Headed, is_head, any_in, number_of, listed_of, ListedFits, MeetsLists, Again};
 
 use layout::{ELEMENTS, ElementNo, LIST, RECORD, RECORDS};
 use text::{Reading, Refusal};
@@ -85,10 +86,7 @@ fn listed_at(
     if heads[k.0 - 1] != 0 {
         return Err(Refusal::Attribute.at(i));
     }
-    Ok(Head {
-        element: k,
-        at: e,
-    })
+    Ok(Head { element: k, at: e })
 }
 
 // An attribute definition list declaration whose keyword ends at `at`, after the elements recorded in `elements` and the lists in `heads`, and where it ends. Where it is
@@ -114,12 +112,19 @@ pub fn list_at(
     Ok(e)
 }
 
+// Whether one of these heads is no 0.
+fn is_any(heads: &[u16]) -> bool
+    ensures { result ≡ list_any is_head heads.now }
+{
+    heads.iter().any(|h| *h != 0)
+}
+
 // Whether one of the first n elements has a list.
 pub fn has_any(heads: &[u16; ELEMENTS], n: usize) -> bool
     requires { n ≤ element_limit }
     ensures { result ≡ any_in heads.now n }
 {
-    heads[..n].iter().any(|h| *h != 0)
+    is_any(&heads[..n])
 }
 
 // Puts the list of the k-th element, from 0, whose head is `from`, into the table. A head that is no place behind a keyword is no type's.

@@ -1,19 +1,19 @@
 -- A list, definition after definition.
-use Prim.Native.Nat.{ℕ, suc, ◌+◌, ◌-◌, ◌≤◌, ◌<◌}
+use Prim.Native.Nat.{ℕ, suc, ◌+◌, ◌-◌, ◌<◌}
 use Rattle.std.specs.Prelude.{◌≡◌, refl, Bool, true, false, ◌&&◌, List, [], ◌∷◌, ◌++◌, length, get_or, set, eqb, leb}
 use Rattle.std.proofs.Math.Path.{sym, ap}
 use Rattle.std.proofs.Common.{◌∙◌, arith, eq-eqb, ne_eqb}
 use Rattle.std.proofs.Math.ListN.{length-append}
-use Rattle.rules.specs.Bytes.{byte_at, letter, ATTCNT, GRPCNT, MDC}
-use Rattle.rules.specs.Reading.{Reading, got, and_then}
+use Rattle.rules.specs.Bytes.{byte_at, letter, ATTCNT, MDC}
+use Rattle.rules.specs.Reading.{got, and_then}
 use Rattle.rules.specs.Attributes.{Attribute}
-use Rattle.rules.specs.TypeFile.{gap, unfit, tokens_of, Definition, definition, definitions, list_from}
+use Rattle.rules.specs.TypeFile.{gap, unfit, tokens_of, definition, definitions, list_from}
 use Rattle.text.specs.declared.Fault.{Fault}
 use Rattle.text.specs.Refusal.{refusal_of}
 use Rattle.text.specs.Words.{test_in}
 use Rattle.name_tokens.specs.Tokens.{parts_of}
 use Rattle.list_table.specs.declared.Row.{Row}
-use Rattle.list_table.specs.Lists.{Short, RowOf, ListAt}
+use Rattle.list_table.specs.Lists.{RowOf, ListAt}
 use Rattle.attribute_definitions.specs.Definition.{DefinedAs}
 use Rattle.list_definitions.specs.ListAs.{ListAs}
 

@@ -127,7 +127,14 @@ fn is_named(s: &[u8], r: Row, t: &[u8], at: usize, size: usize) -> bool
 }
 
 // The attribute of the element e that has the name of this size at `at` in the text t.
-pub fn find(s: &[u8], lists: &[u16], e: ElementNo, t: &[u8], at: usize, size: usize) -> Option<AttributeNo>
+pub fn find(
+    s: &[u8],
+    lists: &[u16],
+    e: ElementNo,
+    t: &[u8],
+    at: usize,
+    size: usize,
+) -> Option<AttributeNo>
     requires { (1 ≤ e.0) × (e.0 ≤ element_limit) × (at + size ≤ length t.now) × (length t.now < 4294967296) }
     ensures { ((long : ℕ) (xs : List Attribute) → ListAt long s.now lists.now (LIST * (e.0 - 1)) xs → number_of result ≡ attribute_of s.now xs t.now at size) × IfSome result (λ a. (1 ≤ a.0) × (a.0 ≤ ATTCNT)) }
 {

@@ -1,5 +1,4 @@
 -- `element_of` meets its contract. The invariant: whatever is recorded, what is left to look through gives the answer.
-use Prim.Native.Nat.{◌-◌, ◌≤◌}
 use mathlib.Core.Path.{◌≡◌}
 use mathlib.Core.List.{List}
 use lib.ListN.{length}
@@ -9,7 +8,4 @@ use Rattle.attribute_lists.specs.Lookup.{Looks}
 use Rattle.attribute_lists.proofs.element_of.Given as goal
 
 abbrev pub invariant-loop-k : goal.invariant-loop-k
-invariant-loop-k l = (l.k ≤ l.count) × ((es : List rules.Element) → length es ≡ l.count → Recorded l.elements es → Looks l.s es l.at l.size l.k)
-
-abbrev pub decreases-loop-k : goal.decreases-loop-k
-decreases-loop-k l = l.count - l.k
+invariant-loop-k l = (es : List rules.Element) → length es ≡ l.count → Recorded l.elements es → Looks l.s es l.at l.size l.k

@@ -43,6 +43,6 @@ returns c = let a = c.args in
     let range = gap_range a.s.now a.at _ c.requires.1 g in
     let w = c.in_ok-l.ensures.1 in (
       λ es ls n r h.
-          list_headed o a.s.now a.at es ls g (sym (c.in_ok-l.ensures.0 es ls n r h)) a.heads.now _ _ h c.whole.ensures (omega (arith, c.requires, range, w)) w.3 w.0 (omega (arith, c.requires, w)) w.4 c.in_ok-e.ensures.meets_list,
+          list_headed o a.s.now a.at es ls g (sym (c.in_ok-l.ensures.0 es ls n r h)) a.heads.now _ _ h c.told-heads (omega (arith, c.requires, range, w)) w.3 w.0 (omega (arith, c.requires, w)) w.4 c.in_ok-e.ensures.meets_list,
       omega (arith, range, w, c.in_ok-e.ensures.list_in),
     )

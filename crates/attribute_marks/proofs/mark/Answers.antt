@@ -11,14 +11,14 @@ returns-in_default c = let a = c.args in
 
 pub returns-then-marks-k-ne0 : goal.returns-then-marks-k-ne0
 returns-then-marks-k-ne0 c = let a = c.args in
-    λ xs before l u m. answer_again _ a.s.now a.lists.now _ a.d.now (written_as a.w) a.marks.now xs before l u m _ ? (λ z. omega (arith, c.if-marks-k-ne0.true, z))
+    λ xs before l u m. answer_again _ a.s.now a.lists.now _ a.d.now (written_as a.w) a.marks.now xs before l u m _ (c.in-Some.ensures.0 _ xs l) (λ z. omega (arith, c.in-Some.ensures.1, z)) (λ z. omega (arith, c.if-marks-k-ne0.true, z))
 
 pub returns-then-fits : goal.returns-then-fits
 returns-then-fits c = let a = c.args in
     λ xs before l u m.
-    answer_fitting _ a.s.now a.lists.now _ a.d.now (written_as a.w) a.marks.now xs before l u m _ ? c.told-marks (omega (arith, c.if-marks-k-ne0.false)) _ c.attribute-r.ensures.0 _ c.value-v.ensures (omega (arith, c.requires)) _ c.fits.ensures c.if-fits.true
+    answer_fitting _ a.s.now a.lists.now _ a.d.now (written_as a.w) a.marks.now xs before l u m _ (c.in-Some.ensures.0 _ xs l) (λ z. omega (arith, c.in-Some.ensures.1, z)) c.told-marks (omega (arith, c.if-marks-k-ne0.false)) _ c.attribute-r.ensures.0 _ c.value-v.ensures (omega (arith, c.requires)) _ c.fits.ensures c.if-fits.true
 
 pub returns : goal.returns
 returns c = let a = c.args in
     λ xs before l u m.
-    answer_unfitting _ a.s.now a.lists.now _ a.d.now (written_as a.w) a.marks.now xs before l u m _ ? c.told-marks (omega (arith, c.if-marks-k-ne0.false)) _ c.attribute-r.ensures.0 _ c.value-v.ensures (omega (arith, c.requires)) _ c.fits.ensures c.if-fits.false
+    answer_unfitting _ a.s.now a.lists.now _ a.d.now (written_as a.w) a.marks.now xs before l u m _ (c.in-Some.ensures.0 _ xs l) (λ z. omega (arith, c.in-Some.ensures.1, z)) c.told-marks (omega (arith, c.if-marks-k-ne0.false)) _ c.attribute-r.ensures.0 _ c.value-v.ensures (omega (arith, c.requires)) _ c.fits.ensures c.if-fits.false

@@ -15,10 +15,10 @@ loop-k-preserved c = let a = c.args in (
   omega arith,
   elim c.match-mark.branch [
     | in-Err+in_default-r w ↦
-      rw (w.misfit-is, w.or-misfit.ensures)
-      (going_wrong _ a.s.now a.lists.now _ a.d.now a.given.now _ _ _ _ c.loop-k.invariant.1 _ c.kept-w.ensures _ _ w.in_default-r.not-Attribute w.in-Err.ensures)
+        rw (w.misfit-is, w.or-misfit.ensures)
+        (going_wrong _ a.s.now a.lists.now _ a.d.now a.given.now _ _ _ _ c.loop-k.invariant.1 _ c.kept-w.ensures _ _ w.in_default-r.not-Attribute w.in-Err.ensures)
     | in_default w ↦
-      rw w.misfit-is (going_right _ a.s.now a.lists.now _ a.d.now a.given.now _ _ _ _ c.loop-k.invariant.1 _ c.kept-w.ensures _ _ w.in_default.not-Err c.mark.ensures)
+        rw w.misfit-is (going_right _ a.s.now a.lists.now _ a.d.now a.given.now _ _ _ _ c.loop-k.invariant.1 _ c.kept-w.ensures _ _ w.in_default.not-Err c.mark.ensures)
   ],
 )
 
