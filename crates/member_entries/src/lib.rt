@@ -11,6 +11,29 @@ ghost use Rattle.member_entries.specs.Entries.{put_free, marked, put_places, put
 
 use layout::{ENDING, GROUP, LASTS, MODEL, MODEL_ROW, POSITIONS};
 
+// What a group is put by: where the element's numbers begin, the table of its model, and how many groups are put, with the last place of each.
+#[derive(Clone, Copy)]
+pub struct Draft<'a> {
+    pub base: usize,
+    pub table: &'a [u8; MODEL],
+    pub lasts: &'a [u8; LASTS],
+    pub groups: usize,
+    pub ghost within: { base < MEMBERS },
+    pub ghost few: { groups < AND_GROUPS },
+}
+
+// The member `number` of the places [lo, hi). The place `other` can begin another member of its group, so it may come next where this one can end.
+#[derive(Clone, Copy)]
+pub struct Member {
+    pub number: usize,
+    pub lo: usize,
+    pub hi: usize,
+    pub other: usize,
+    pub ghost numbered: { number < POSITIONS },
+    pub ghost ends: { hi ≤ 256 },
+    pub ghost begins: { other < 256 },
+}
+
 // A number of the table; nothing is put past its end.
 fn put(members: &mut [u8], i: usize, x: u8)
     ensures { members.new ≡ set members.old i x }
@@ -31,151 +54,74 @@ fn put_free(members: &mut [u8], i: usize, x: u8)
     }
 }
 
-// The member h, and `ENDING` more if w may come next after the place u.
-fn mark(table: &[u8; MODEL], u: usize, w: usize, h: usize) -> u8
-    requires u_bound { u < 256 }
-    requires w_bound { w < 256 }
-    requires h_bound { h < POSITIONS }
-    ensures { result ≡ marked table.now u w h }
+// The member's number, and `ENDING` more if it can end with the place u.
+fn mark(table: &[u8; MODEL], m: Member, u: usize) -> u8
+    requires { u < 256 }
+    ensures { result ≡ marked table.now u m.other m.number }
 {
-    let i = u * MODEL_ROW + w;
+    let i = u * MODEL_ROW + m.other;
     if i < MODEL {
         if table[i] == 1 {
-            return (h + ENDING) as u8;
+            return (m.number + ENDING) as u8;
         }
     }
-    h as u8
+    m.number as u8
 }
 
-// The member h has the places of [lo, hi) that no inner member has. w can begin another member of its group, so it may come next where h can end.
-fn put_places(
-    members: &mut [u8],
-    base: usize,
-    table: &[u8; MODEL],
-    lo: usize,
-    hi: usize,
-    w: usize,
-    h: usize,
-)
-    requires base_bound { base < MEMBERS }
-    requires hi_bound { hi ≤ 256 }
-    requires w_bound { w < 256 }
-    requires h_bound { h < POSITIONS }
-    ensures { members.new ≡ put_places members.old base table.now w h lo hi }
+// The member has those of its places that no inner member has.
+fn put_places(members: &mut [u8], d: Draft, m: Member)
+    ensures { members.new ≡ put_places members.old d.entry.base d.entry.table.now m.other m.number m.lo m.hi }
 {
-    for u in lo..hi {
-        put_free(members, base + u, mark(table, u, w, h));
+    for u in m.lo..m.hi {
+        put_free(members, d.base + u, mark(d.table, m, u));
     }
 }
 
-// The member h of the places [lo, hi) has the group g, which ends with the place `last`, if that is one of its places and no inner member has the group.
-fn put_outer(
-    members: &mut [u8],
-    base: usize,
-    table: &[u8; MODEL],
-    lo: usize,
-    hi: usize,
-    w: usize,
-    h: usize,
-    last: usize,
-    g: usize,
-)
-    requires base_bound { base < MEMBERS }
-    requires w_bound { w < 256 }
-    requires h_bound { h < POSITIONS }
+// The member has the group g, which ends with the place `last`, if that is one of its places and no inner member has the group.
+fn put_outer(members: &mut [u8], d: Draft, m: Member, last: usize, g: usize)
     requires last_bound { last < 256 }
     requires g_bound { g ≤ AND_GROUPS }
-    ensures { members.new ≡ put_outer members.old base table.now w h lo hi last g }
+    ensures { members.new ≡ put_outer members.old d.entry.base d.entry.table.now m.other m.number m.lo m.hi last g }
 {
-    if lo <= last {
-        if last < hi {
+    if m.lo <= last {
+        if last < m.hi {
             put_free(
                 members,
-                base + 3 * POSITIONS + g * GROUP + 3,
-                mark(table, last, w, h),
+                d.base + 3 * POSITIONS + g * GROUP + 3,
+                mark(d.table, m, last),
             );
         }
     }
 }
 
-// The member h has those of the first groups that are within it and that no inner member has.
-fn put_outers(
-    members: &mut [u8],
-    base: usize,
-    table: &[u8; MODEL],
-    lo: usize,
-    hi: usize,
-    w: usize,
-    h: usize,
-    lasts: [u8; LASTS],
-    groups: usize,
-)
-    requires base_bound { base < MEMBERS }
-    requires w_bound { w < 256 }
-    requires h_bound { h < POSITIONS }
-    requires groups_bound { groups ≤ AND_GROUPS }
-    ensures { members.new ≡ put_outers members.old base table.now w h lo hi lasts 1 (groups + 1) }
+// The member has those of the first groups that are within it and that no inner member has.
+fn put_outers(members: &mut [u8], d: Draft, m: Member)
+    ensures { members.new ≡ put_outers members.old d.entry.base d.entry.table.now m.other m.number m.lo m.hi d.entry.lasts.now 1 (d.entry.groups + 1) }
 {
-    let end = groups + 1;
-    for g in 1..end {
-        put_outer(
-            members,
-            base,
-            table,
-            lo,
-            hi,
-            w,
-            h,
-            numbers::wide(lasts[g]),
-            g,
-        );
+    for g in 1..d.groups + 1 {
+        put_outer(members, d, m, numbers::wide(d.lasts[g]), g);
     }
 }
 
-// The member h of the group after the first groups: its places [lo, hi) and the groups within it, its group, and the place that it requires.
-pub fn put_member(
-    members: &mut [u8],
-    base: usize,
-    table: &[u8; MODEL],
-    lasts: [u8; LASTS],
-    groups: usize,
-    w: usize,
-    h: usize,
-    lo: usize,
-    hi: usize,
-    required: u8,
-)
-    requires base_bound { base < MEMBERS }
-    requires groups_bound { groups < AND_GROUPS }
-    requires w_bound { w < 256 }
-    requires h_bound { h < POSITIONS }
-    requires hi_bound { hi ≤ 256 }
-    ensures { members.new ≡ put_member members.old base table.now lasts groups w h lo hi required }
+// The member of the group after the first groups: its places and the groups within it, its group, and the place that it requires.
+pub fn put_member(members: &mut [u8], d: Draft, m: Member, required: u8)
+    ensures { members.new ≡ put_member members.old d.entry.base d.entry.table.now d.entry.lasts.now d.entry.groups m.other m.number m.lo m.hi required }
 {
-    put_places(members, base, table, lo, hi, w, h);
-    put_outers(members, base, table, lo, hi, w, h, lasts, groups);
-    let g = groups + 1;
-    put(members, base + POSITIONS + h, g as u8);
-    put(members, base + 2 * POSITIONS + h, required);
+    put_places(members, d, m);
+    put_outers(members, d, m);
+    let g = d.groups + 1;
+    put(members, d.base + POSITIONS + m.number, g as u8);
+    put(members, d.base + 2 * POSITIONS + m.number, required);
 }
 
 // The group after the first groups: its first member, how many cannot be nothing, and how many there are.
-pub fn put_record(
-    members: &mut [u8],
-    base: usize,
-    groups: usize,
-    own: usize,
-    needed: usize,
-    k: usize,
-)
-    requires base_bound { base < MEMBERS }
-    requires groups_bound { groups < AND_GROUPS }
+pub fn put_record(members: &mut [u8], d: Draft, own: usize, needed: usize, k: usize)
     requires own_bound { own < 256 }
     requires needed_bound { needed < 256 }
     requires k_bound { k < 256 }
-    ensures { members.new ≡ put_record members.old base groups own needed k }
+    ensures { members.new ≡ put_record members.old d.entry.base d.entry.groups own needed k }
 {
-    let at = base + 3 * POSITIONS + (groups + 1) * GROUP;
+    let at = d.base + 3 * POSITIONS + (d.groups + 1) * GROUP;
     put(members, at, own as u8);
     put(members, at + 1, needed as u8);
     put(members, at + 2, k as u8);

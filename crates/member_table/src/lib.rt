@@ -10,6 +10,7 @@ ghost use Rattle.layout.specs.Sizes.{AND_GROUPS, CONTENTS, MEMBERS, POSITIONS};
 ghost use Rattle.member_table.specs.Filling.{needed_in, number_at, put_one, put_group, fits, place_piece, opt_piece, joined_piece, closed_piece, filled};
 
 use layout::{AND_GROUPS, CODE, ElementNo, LASTS, MEMBER, MODEL, MODEL_ROWS, POSITIONS};
+use member_entries::{Draft, Member};
 
 const AND_CODE: usize = model_code::AND_CODE as usize;
 
@@ -22,15 +23,71 @@ pub struct Piece {
     pub required: u8,
 }
 
+impl Piece {
+    // A place by itself.
+    fn placed(p: u8) -> Piece
+        ensures { result ≡ place_piece p }
+    {
+        Piece {
+            lo: p,
+            last: p,
+            null: false,
+            required: p,
+        }
+    }
+
+    // It may be left out.
+    fn optional(self) -> Piece
+        ensures { result ≡ opt_piece self }
+    {
+        Piece {
+            null: true,
+            required: 0,
+            ..self
+        }
+    }
+
+    // It is joined to b by "," or "|".
+    fn joined(self, op: u8, b: Piece) -> Piece
+        ensures { result ≡ joined_piece op self b }
+    {
+        let sequence = op == model_code::SEQ_CODE;
+        let mut null = self.null || b.null;
+        let mut required = 0;
+        if sequence {
+            null = self.null && b.null;
+            required = if self.null { b.required } else { self.required };
+        }
+        Piece {
+            lo: self.lo,
+            last: b.last,
+            null,
+            required,
+        }
+    }
+
+    // An "&" group from it to the piece b, of whose members so many cannot be nothing.
+    fn closed(self, needed: usize, b: Piece) -> Piece
+        ensures { result ≡ closed_piece needed self b }
+    {
+        Piece {
+            lo: self.lo,
+            last: b.last,
+            null: needed == 0,
+            required: 0,
+        }
+    }
+}
+
 // How many of the k pieces of the stack from `first` on cannot be nothing.
-fn needed_in(stack: [Piece; POSITIONS], first: usize, k: usize) -> usize
+// Kept: the stack, `first` and k, no sub-slice: (fixed) `needed_in`, `number_at` and `put_group` of Filling say it of the stack from `first` on.
+fn needed_in(stack: &[Piece; POSITIONS], first: usize, k: usize) -> usize
     requires { first + k ≤ POSITIONS }
-    ensures { (result ≡ needed_in stack first k) × (result ≤ k) }
+    ensures { (result ≡ needed_in stack.now first k) × (result ≤ k) }
 {
     let mut n = 0;
     for j in 0..k {
-        let m = stack[first + j];
-        if !m.null {
+        if !stack[first + j].null {
             n += 1;
         }
     }
@@ -40,23 +97,18 @@ fn needed_in(stack: [Piece; POSITIONS], first: usize, k: usize) -> usize
 // The piece j of the stack from `first` on is a member of the next group, whose members are numbered from `own`.
 fn put_one(
     members: &mut [u8],
-    base: usize,
-    table: &[u8; MODEL],
-    lasts: [u8; LASTS],
-    groups: usize,
+    d: Draft,
     own: usize,
-    stack: [Piece; POSITIONS],
+    stack: &[Piece; POSITIONS],
     first: usize,
     needed: usize,
     j: usize,
 )
-    requires base_bound { base < MEMBERS }
-    requires groups_bound { groups < AND_GROUPS }
     requires first_bound { first < GRPGTCNT }
     requires j_bound { first + j < POSITIONS }
     requires own_bound { (own < POSITIONS) × (needed ≤ POSITIONS) }
-    requires j_bound_2 { number_at stack first own needed j < POSITIONS }
-    ensures { members.new ≡ put_one members.old base table.now lasts groups own stack first needed j }
+    requires j_bound_2 { number_at stack.now first own needed j < POSITIONS }
+    ensures { members.new ≡ put_one members.old d.entry.base d.entry.table.now d.entry.lasts.now d.entry.groups own stack.now first needed j }
 {
     let m = stack[first + j];
     let n = needed_in(stack, first, j);
@@ -68,43 +120,36 @@ fn put_one(
     if j == 0 {
         o = first + 1;
     }
-    let other = stack[o];
-    let w = numbers::wide(other.lo);
-    let lo = numbers::wide(m.lo);
-    let hi = numbers::wide(m.last) + 1;
-    member_entries::put_member(
-        members, base, table, lasts, groups, w, h, lo, hi, m.required,
-    );
+    let member = Member {
+        number: h,
+        lo: numbers::wide(m.lo),
+        hi: numbers::wide(m.last) + 1,
+        other: numbers::wide(stack[o].lo),
+    };
+    member_entries::put_member(members, d, member, m.required);
 }
 
 // The next group: its members are the k pieces of the stack from `first` on, numbered behind the `count` members that
 // there are. It gives how many of them cannot be nothing.
 fn put_group(
     members: &mut [u8],
-    base: usize,
-    table: &[u8; MODEL],
-    lasts: [u8; LASTS],
-    groups: usize,
+    d: Draft,
     count: usize,
-    stack: [Piece; POSITIONS],
+    stack: &[Piece; POSITIONS],
     first: usize,
     k: usize,
 ) -> usize
-    requires base_bound { base < MEMBERS }
-    requires groups_bound { groups < AND_GROUPS }
     requires le_k { 2 ≤ k }
     requires k_bound { first + k ≤ POSITIONS }
     requires k_bound_2 { count + k < POSITIONS }
-    ensures members_after { members.new ≡ put_group members.old base table.now lasts groups (count + 1) stack first (needed_in stack first k) k }
-    ensures value { result ≡ needed_in stack first k }
+    ensures members_after { members.new ≡ put_group members.old d.entry.base d.entry.table.now d.entry.lasts.now d.entry.groups (count + 1) stack.now first (needed_in stack.now first k) k }
+    ensures value { result ≡ needed_in stack.now first k }
 {
     let own = count + 1;
     let needed = needed_in(stack, first, k);
-    member_entries::put_record(members, base, groups, own, needed, k);
+    member_entries::put_record(members, d, own, needed, k);
     for j in 0..k {
-        put_one(
-            members, base, table, lasts, groups, own, stack, first, needed, j,
-        );
+        put_one(members, d, own, stack, first, needed, j);
     }
     needed
 }
@@ -115,75 +160,7 @@ fn fits(k: usize, top: usize, groups: usize, count: usize) -> bool
     requires count_bound { count < POSITIONS }
     ensures { result ≡ fits k top groups count }
 {
-    if k < 2 {
-        return false;
-    }
-    if top < k {
-        return false;
-    }
-    if AND_GROUPS <= groups {
-        return false;
-    }
-    count + k < POSITIONS
-}
-
-// Two pieces joined by "," or "|".
-fn joined(op: u8, a: Piece, b: Piece) -> Piece
-    ensures { result ≡ joined_piece op a b }
-{
-    let mut null = a.null;
-    let mut required: u8 = 0;
-    if op == model_code::SEQ_CODE {
-        required = a.required;
-        if a.null {
-            null = b.null;
-            required = b.required;
-        }
-    } else if !a.null {
-        null = b.null;
-    }
-    Piece {
-        lo: a.lo,
-        last: b.last,
-        null: null,
-        required: required,
-    }
-}
-
-// A place by itself.
-fn placed(p: u8) -> Piece
-    ensures { result ≡ place_piece p }
-{
-    Piece {
-        lo: p,
-        last: p,
-        null: false,
-        required: p,
-    }
-}
-
-// A piece that may be left out.
-fn optional(a: Piece) -> Piece
-    ensures { result ≡ opt_piece a }
-{
-    Piece {
-        lo: a.lo,
-        last: a.last,
-        null: true,
-        required: 0,
-    }
-}
-
-// An "&" group from the piece a to the piece b, of whose members so many cannot be nothing.
-fn closed(needed: usize, a: Piece, b: Piece) -> Piece
-    ensures { result ≡ closed_piece needed a b }
-{
-    Piece {
-        lo: a.lo,
-        last: b.last,
-        null: needed == 0,
-        required: 0,
-    }
+    2 <= k && k <= top && groups < AND_GROUPS && count + k < POSITIONS
 }
 
 // The members of the element e, whose model has its table in `table` with n numbers of code. Where they are all 0 before, the table tells the model then (`fills`).
@@ -192,42 +169,47 @@ pub fn fill(members: &mut [u8], e: ElementNo, table: &[u8; MODEL], n: usize)
     ensures { members.new ≡ filled members.old e.0 table.now n }
 {
     let base = e.0 * MEMBER;
-    let none = placed(0);
+    let none = Piece::placed(0);
     let mut stack = [none; POSITIONS];
     let mut lasts = [0u8; LASTS];
     let mut groups = 0;
     let mut count = 0;
     let mut top = 0;
-    let mut i = 0;
-    while i < n && i < CODE {
+    let end = n.min(CODE);
+    for i in 0..end {
         let op = table[MODEL_ROWS + i];
         if op < model_code::SEQ_CODE {
             if top < POSITIONS {
-                stack[top] = placed(op);
+                stack[top] = Piece::placed(op);
                 top += 1;
             }
         } else if op == model_code::OPT_CODE {
             if 1 <= top {
-                stack[top - 1] = optional(stack[top - 1]);
+                stack[top - 1] = stack[top - 1].optional();
             }
         } else if op < model_code::PLUS_CODE {
             if 2 <= top {
-                stack[top - 2] = joined(op, stack[top - 2], stack[top - 1]);
+                stack[top - 2] = stack[top - 2].joined(op, stack[top - 1]);
                 top -= 1;
             }
         } else if model_code::AND_CODE < op {
             let k = numbers::wide(op) - AND_CODE;
             if fits(k, top, groups, count) {
                 let first = top - k;
-                let needed = put_group(members, base, table, lasts, groups, count, stack, first, k);
+                let d = Draft {
+                    base,
+                    table,
+                    lasts: &lasts,
+                    groups,
+                };
+                let needed = put_group(members, d, count, &stack, first, k);
                 let b = stack[top - 1];
-                stack[first] = closed(needed, stack[first], b);
+                stack[first] = stack[first].closed(needed, b);
                 groups += 1;
                 count += k;
                 lasts[groups] = b.last;
                 top = first + 1;
             }
         }
-        i += 1;
     }
 }

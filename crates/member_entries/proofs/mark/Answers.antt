@@ -4,4 +4,4 @@ use Rattle.member_entries.specs.Writes.{marked_one}
 use Rattle.member_entries.proofs.mark.Goals as goal
 
 pub returns-then-table-i-eq1 : goal.returns-then-table-i-eq1
-returns-then-table-i-eq1 c = let x = c.args in marked_one x.table.now x.u x.w x.h _ c.if-table-i-eq1.true (omega arith)
+returns-then-table-i-eq1 c = marked_one _ c.args.u c.args.m.other c.args.m.number _ c.if-table-i-eq1.true (omega arith)

@@ -2,11 +2,11 @@
 use Rattle.member_entries.specs.Writes.{outer_within, outer_right, outer_left}
 use Rattle.member_entries.proofs.put_outer.Goals as goal
 
-pub returns-then-last-hi : goal.returns-then-last-hi
-returns-then-last-hi c = outer_within _ _ _ _ _ _ _ _ _ _ _ c.put_free.ensures c.mark.ensures c.if-lo-last.true c.if-last-hi.true
+pub returns-then-last-m : goal.returns-then-last-m
+returns-then-last-m c = outer_within _ _ _ _ _ _ _ _ _ _ _ c.put_free.ensures c.mark.ensures c.if-m-last.true c.if-last-m.true
 
-pub returns-else-last-hi : goal.returns-else-last-hi
-returns-else-last-hi c = outer_right _ _ _ _ _ _ _ _ _ c.if-lo-last.true c.if-last-hi.false
+pub returns-else-last-m : goal.returns-else-last-m
+returns-else-last-m c = outer_right _ _ _ _ _ _ _ _ _ c.if-m-last.true c.if-last-m.false
 
-pub returns-else-lo-last : goal.returns-else-lo-last
-returns-else-lo-last c = outer_left _ _ _ _ _ _ _ _ _ c.if-lo-last.false
+pub returns-else-m-last : goal.returns-else-m-last
+returns-else-m-last c = outer_left _ _ _ _ _ _ _ _ _ c.if-m-last.false

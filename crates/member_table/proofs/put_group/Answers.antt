@@ -9,8 +9,8 @@ pub put_one-requires : goal.put_one-requires
 put_one-requires c =
     let i = c.loop-j in
     let x = c.args in
-    let number = number_small x.stack x.first (x.count + 1) c.needed_in-needed.result i.j x.k c.needed_in-needed.ensures.0 (omega arith) (omega arith) in
-    record { base_bound = omega arith; groups_bound = omega arith; first_bound = omega arith; j_bound = omega arith; own_bound = (omega arith, omega arith); j_bound_2 = number }
+    let number = number_small x.stack.now x.first (x.count + 1) c.needed_in-needed.result i.j x.k c.needed_in-needed.ensures.0 (omega arith) (omega arith) in
+    record { first_bound = omega arith; j_bound = omega arith; own_bound = (omega arith, omega arith); j_bound_2 = number }
 
 pub loop-j-preserved : goal.loop-j-preserved
 loop-j-preserved c = let i = c.loop-j in
@@ -24,7 +24,7 @@ returns c =
     let x = c.args in
     let e = c.needed_in-needed.ensures.0 in
     record {
-      members_after = group_put x.members.now x.base x.table.now x.lasts x.groups (x.count + 1) x.stack x.first _ x.k e _ _ c.put_record.ensures
+      members_after = group_put x.members.now x.d.base x.d.table.now x.d.lasts.now x.d.groups (x.count + 1) x.stack.now x.first _ x.k e _ _ c.put_record.ensures
           (ones_end _ _ _ _ _ _ _ _ _ _ _ _ c.loop-j-test.false c.loop-j.invariant.1);
       value = e;
     }
