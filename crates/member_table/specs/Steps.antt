@@ -1,6 +1,7 @@
 -- What one number of the code makes of the table and of the stack, and that the code may be run number by number.
-use Rattle.std.specs.Prelude.{ℕ, zero, suc, ◌+◌, ◌-◌, ◌≤◌, ◌<◌, ◌≡◌, refl, true, false, ◌&&◌, ltb, leb, List, length, get_or, set, replicate}
+use Rattle.std.specs.Prelude.{ℕ, zero, suc, ◌+◌, ◌-◌, ◌≤◌, ◌<◌, ◌≡◌, min, refl, true, false, ◌&&◌, ltb, leb, List, length, get_or, set, replicate}
 use Rattle.std.proofs.Common.{ap, ◌∙◌, arith, eq-eqb, ne_eqb, lt-ltb, le-ltb, le-leb, ltb-true, leb-true}
+use Rattle.std.proofs.Math.Decide.{dec_le}
 use Rattle.std.proofs.lemmas.Bool.{lt-leb}
 use Rattle.model_code.specs.Codes.{AND_CODE, OPT_CODE, PLUS_CODE, SEQ_CODE}
 use Rattle.basic_laws.specs.Truth.{and_left, and_right}
@@ -118,3 +119,10 @@ module _ (T : List ℕ) (base : ℕ) (M₀ : List ℕ) (i : ℕ) (M : List ℕ) 
 
   pub ran_full : i ≤ n → CODE ≤ i → M ≡ (run_fill M₀ base T n).members
   ran_full l full = ap (λ (s : State). s.members) (so.is ∙ run_stays T base M₀ i (n - i) n full (omega arith))
+
+  pub ran_least : i ≡ min n CODE → M ≡ (run_fill M₀ base T n).members
+  ran_least e = go (dec_le n CODE)
+    where
+      go : Dec (n ≤ CODE) → M ≡ (run_fill M₀ base T n).members
+      go (yes l) = ran_all (omega arith)
+      go (no l) = ran_full (omega arith) (omega arith)

@@ -51,18 +51,20 @@ impl Piece {
     fn joined(self, op: u8, b: Piece) -> Piece
         ensures { result ≡ joined_piece op self b }
     {
-        let sequence = op == model_code::SEQ_CODE;
-        let mut null = self.null || b.null;
-        let mut required = 0;
-        if sequence {
-            null = self.null && b.null;
-            required = if self.null { b.required } else { self.required };
-        }
-        Piece {
-            lo: self.lo,
-            last: b.last,
-            null,
-            required,
+        if op == model_code::SEQ_CODE {
+            Piece {
+                lo: self.lo,
+                last: b.last,
+                null: self.null && b.null,
+                required: if self.null { b.required } else { self.required },
+            }
+        } else {
+            Piece {
+                lo: self.lo,
+                last: b.last,
+                null: self.null || b.null,
+                required: 0,
+            }
         }
     }
 

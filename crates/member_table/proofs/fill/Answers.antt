@@ -1,6 +1,6 @@
 use mathlib.Core.Path.{refl, sym, ◌∙◌}
 use native.Mathlib.Omega.{arith}
-use Rattle.member_table.specs.Steps.{run_start, run_by, runs_place, runs_full, runs_opt, runs_opt_none, runs_join, runs_join_none, runs_other, runs_unfit, runs_close, ran_all, ran_full}
+use Rattle.member_table.specs.Steps.{run_start, run_by, runs_place, runs_full, runs_opt, runs_opt_none, runs_join, runs_join_none, runs_other, runs_unfit, runs_close, ran_least}
 use Rattle.member_table.proofs.fill.Goals as goal
 use Rattle.member_table.proofs.fill.Goals.{then-op-lt-SEQ_CODE+then-top-lt-POSITIONS, then-op-lt-SEQ_CODE+else-top-lt-POSITIONS, else-op-lt-SEQ_CODE+then-op-eq-OPT_CODE+then-top-ge1, else-op-lt-SEQ_CODE+then-op-eq-OPT_CODE+else-top-ge1, else-op-lt-SEQ_CODE+else-op-eq-OPT_CODE+then-op-lt-PLUS_CODE+then-top-ge2, else-op-lt-SEQ_CODE+else-op-eq-OPT_CODE+then-op-lt-PLUS_CODE+else-top-ge2, else-op-lt-SEQ_CODE+else-op-eq-OPT_CODE+else-op-lt-PLUS_CODE+then-op-gt-AND_CODE+then-fits, else-op-lt-SEQ_CODE+else-op-eq-OPT_CODE+else-op-lt-PLUS_CODE+then-op-gt-AND_CODE+else-fits, else-op-lt-SEQ_CODE+else-op-eq-OPT_CODE+else-op-lt-PLUS_CODE+else-op-gt-AND_CODE}
 
@@ -23,4 +23,4 @@ loop-i-preserved c =
       ]
 
 pub returns : goal.returns
-returns c = ?
+returns c = ran_least _ _ _ _ _ _ _ _ _ _ c.loop-i.invariant _ (omega (arith, c.loop-i-test.false, c.loop-i.auto.i-end, c.min-end.ensures))
