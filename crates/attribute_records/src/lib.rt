@@ -154,6 +154,7 @@ pub fn list(c: Settings, s: &[u8], buffer: &mut [u32]) -> Verdict
 }
 
 // Lists the attributes of a type file under the settings c. The buffer of bytes gets nine numbers of four bytes for each attribute, or is zeroed.
+// Kept: the twin of `list` (plainer). They share `decide` and `fill`; what is left is which of two buffers is lent.
 pub fn list_to_bytes(c: Settings, s: &[u8], buffer: &mut [u8]) -> Verdict
     ensures { Lists bytes (settings_of c) s.now buffer.old (answer_of result) buffer.new }
 {

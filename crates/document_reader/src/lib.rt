@@ -187,6 +187,8 @@ fn answered(c: Settings, s: &[u8], d: &[u8], bytes: &mut [u8]) -> Answer
 }
 
 // The same to numbers.
+// Kept: the twin of `answered` (plainer). They share `judged`; the step that differs, `read_under` or `numbered`, is the
+// whole rest, and as a closure parameter it would need their contract as a trait's clause.
 fn answered_in_numbers(c: Settings, s: &[u8], d: &[u8], numbers: &mut [u32]) -> Answer
     ensures { Answers (settings_of c) s.now d.now numbers.old numbers.new [] [] result }
 {

@@ -11,6 +11,7 @@ use Rattle.type_laws.specs.Members.{type_file_repeated}
 use Rattle.type_laws.specs.Attributes.{type_file_attributes, attributes_count}
 use Rattle.answer_numbers.specs.Fits.{ambiguous_ordered}
 use Rattle.type_judge.specs.Decides.{answer_of}
+use Rattle.type_judge.specs.Deciding.{raised}
 use Rattle.type_judge.specs.declared.TypeFault.{TypeFault}
 use Rattle.type_judge.specs.declared.TypeFault.TheVariants.{Malformed, Ambiguous}
 use Rattle.type_stage.specs.declared.Refused.{Refused}
@@ -69,10 +70,15 @@ listed_fits l c s before after (Ok n) h = let few = listed_count h in omega arit
 listed_fits l c s before after (Err (Malformed f)) h = let i = listed_in h in omega arith
 listed_fits l c s before after (Err (Ambiguous x)) h = tt
 
--- The judge's answer as the reader gives it: it fits and has the same numbers.
-module _ (v : Result ℕ TypeFault) (a : Result ℕ Refused) (e : MatchResult v (λ n. a ≡ Ok n) (λ x. IsErrAnd a (λ y. y ≡ InType x))) where
-  pub given_fits : VerdictFits v → AnswerFits a
-  given_fits h = ?
+-- The judge's answer as the reader gives it: it fits, and has the same numbers.
+abbrev GivenAs : Result ℕ TypeFault → Result ℕ Refused → Type 0
+GivenAs v a = MatchResult v (λ n. a ≡ Ok n) (λ x. IsErrAnd a (λ y. y ≡ InType x))
 
-  pub given_same : reader.answer_of a ≡ answer_of v
-  given_same = ?
+pub given_fits : (v : Result ℕ TypeFault) (a : Result ℕ Refused) → GivenAs v a → VerdictFits v → AnswerFits a
+given_fits (Ok n) a e h = rw e h
+given_fits (Err (Malformed f)) a e h = rw (raised a e) h
+given_fits (Err (Ambiguous x)) a e h = rw (raised a e) tt
+
+pub given_same : (v : Result ℕ TypeFault) (a : Result ℕ Refused) → GivenAs v a → reader.answer_of a ≡ answer_of v
+given_same (Ok n) a e = ap reader.answer_of e
+given_same (Err x) a e = ap reader.answer_of (raised a e)

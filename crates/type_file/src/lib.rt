@@ -17,6 +17,8 @@ use layout::{ELEMENTS, MODEL, NAMES, RECORDS};
 use text::{Reading, Refusal};
 
 // `<!` at i and a letter after it.
+// Kept: the four tables as four parameters, here and below (plainer). A struct of their references needs, in each contract,
+// a clause for each that it is the reference that it was (as `same_reference` of the crate line_text).
 fn keyword_at(
     long: usize,
     s: &[u8],

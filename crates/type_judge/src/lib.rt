@@ -100,6 +100,8 @@ pub fn judge(c: Settings, s: &[u8], buffer: &mut [u32]) -> Verdict
 }
 
 // Judges a type file under the settings c. The buffer of bytes gets six numbers of four bytes for each element, or is zeroed.
+// Kept: the twin of `judge` (plainer). They share `decide`, and `fill` of any slice; what is left differs in the room,
+// in how numbers are written and in the rules' word for the buffer, which a trait for `u32` and `u8` would say again.
 pub fn judge_to_bytes(c: Settings, s: &[u8], buffer: &mut [u8]) -> Verdict
     ensures { Judged bytes (settings_of c) s.now buffer.old (answer_of result) buffer.new }
 {

@@ -31,6 +31,8 @@ pub type Stage = Result<usize, Stopped>;
 
 // Judges the type file s under the settings c: accepted with so many elements in `elements`, the heads of their lists in `heads`, which is all 0 before,
 // or refused. On refusal what both hold is not decided.
+// Kept: the tests of `type_judge::decide` again (plainer): here each refusal has its stage, there none has, so that a
+// function of both would hand out a stage for the judge to drop.
 pub fn judged(
     c: Settings,
     s: &[u8],
