@@ -219,9 +219,6 @@ module _ (s elements : List ℕ) (before k size : ℕ) where
   pub follows_over : before < k → element_limit < k → false ≡ follows s elements before k size
   follows_over h l = rw (lt-ltb before k h, lt-leb k element_limit l)
 
-  pub follows_by : before < k → k ≤ element_limit → {o : ℕ} → o ≡ get_or elements (record_width * (k - 1)) 0 → leb (o + size) (length s) ≡ follows s elements before k size
-  follows_by h l e = rw (e, lt-ltb before k h, le-leb k element_limit l)
-
   pub follows_true : {r : Bool} → r ≡ follows s elements before k size → r ≡ true → (before < k) × (k ≤ element_limit) × (get_or elements (record_width * (k - 1)) 0 + size ≤ length s)
   follows_true e q =
       let w = rw q at e in

@@ -25,7 +25,7 @@ fn bucket(first: u8, size: usize) -> usize
     requires { (1 ≤ size) × (size ≤ most_name_length) }
     ensures { (result ≡ CONTENTS + bucket_of first size) × (result < INDEX) }
 {
-    CONTENTS + (size - 1) * LETTERS + numbers::wide(first % LETTER)
+    CONTENTS + (size - 1) * LETTERS + usize::from(first % LETTER)
 }
 
 // Where the name of the element k stands in the type file.
@@ -33,7 +33,7 @@ pub fn offset(elements: &[u32; RECORDS], k: ElementNo) -> usize
     requires { (1 ≤ k.0) × (k.0 ≤ element_limit) }
     ensures { (result ≡ get_or elements.now (record_width * (k.0 - 1)) 0) × (result < 4294967296) }
 {
-    numbers::widened(elements[RECORD * (k.0 - 1)])
+    elements[RECORD * (k.0 - 1)] as usize
 }
 
 // Whether n bytes of s from a and n bytes of t from b are equal, folded, where the first ones are: they have one bucket. Where these are not, what it answers is
@@ -45,16 +45,16 @@ fn same_name(s: &[u8], a: usize, t: &[u8], b: usize, n: usize) -> bool
     for i in 1..n {
         let x = s[a + i];
         let y = t[b + i];
-        if x != y {
-            if text::folded(x) != text::folded(y) {
-                return false;
-            }
+        if x != y && text::folded(x) != text::folded(y) {
+            return false;
         }
     }
     true
 }
 
 // An element by its name, 0 if none has it, and with how many names that name was compared.
+// Kept: two results, and not one value under a condition. What 0 stands for is an `ElementNo` of its own, which the open elements and the tables hold too; the
+// contracts say `result.element.0 ≡ number_of ..`, and an `Option` here would be made a 0 again by each caller.
 #[derive(Drop)]
 pub struct Found {
     pub element: ElementNo,
@@ -73,13 +73,7 @@ fn comes_next(
     requires { size ≤ most_name_length }
     ensures { result ≡ follows s.now elements.now before.0 k.0 size }
 {
-    if k.0 <= before.0 {
-        return false;
-    }
-    if ELEMENTS < k.0 {
-        return false;
-    }
-    offset(elements, k) + size <= s.len()
+    before.0 < k.0 && k.0 <= ELEMENTS && offset(elements, k) + size <= s.len()
 }
 
 // Which element has the name of this size at `at` of t, which lies within t. The type file is s. Only names of the same length and first
@@ -106,8 +100,9 @@ pub fn find(
             compared: 0,
         };
     }
+    // Kept: it goes along links, and no index is counted, so that a `for` over a range or a slice is no plainer.
     let mut before = none;
-    let mut k = ElementNo(numbers::wide(index[bucket(first, size)]));
+    let mut k = ElementNo(usize::from(index[bucket(first, size)]));
     let mut n = 0;
     while comes_next(s, elements, before, k, size) {
         let i = k.0;
@@ -119,7 +114,7 @@ pub fn find(
         }
         n += 1;
         before = k;
-        k = ElementNo(numbers::wide(index[i]));
+        k = ElementNo(usize::from(index[i]));
     }
     Found {
         element: none,
@@ -134,7 +129,7 @@ fn put_index(s: &[u8], elements: &[u32; RECORDS], index: &mut [u8; INDEX], k: El
         (bucket_of (byte_at s.now (get_or elements.now (record_width * (k.0 - 1)) 0)) (get_or elements.now (record_width * (k.0 - 1) + 1) 0)) k.0 }
 {
     let i = k.0;
-    let size = numbers::widened(elements[RECORD * (i - 1) + 1]);
+    let size = elements[RECORD * (i - 1) + 1] as usize;
     let b = bucket(text::byte(s, offset(elements, k)), size);
     index[i] = index[b];
     index[b] = i as u8;

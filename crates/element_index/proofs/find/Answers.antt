@@ -13,7 +13,7 @@ loop-k-init c =
     let a = c.args in
     let (some, short, inside) = c.requires in
     let first = letter_read a.t.now a.at c.byte-first.result c.byte-first.ensures c.is_letter.ensures c.if-not-is_letter.false in
-    let start = bucket_read a.index.now a.t.now a.at a.size _ _ _ c.byte-first.ensures c.bucket.ensures.0 c.wide.ensures.0 in
+    let start = bucket_read a.index.now a.t.now a.at a.size _ _ _ c.byte-first.ensures c.bucket.ensures.0 c.from.ensures in
     (omega arith, omega arith, first, λ es x. seeks_start a.t.now a.at a.size x some first short start)
 
 -- The pair that a law gives, with the count as the code has it.
@@ -39,7 +39,7 @@ loop-k-preserved c =
       omega arith,
       omega arith,
       first,
-      λ es x. seeks_counted (omega arith) (seeks_next a.t.now a.at a.size x c.requires.0 first (seeks es x) (omega arith) c.offset.ensures.0 c.same_name.ensures c.if-same_name.false c.wide-in-loop-k.ensures.0),
+      λ es x. seeks_counted (omega arith) (seeks_next a.t.now a.at a.size x c.requires.0 first (seeks es x) (omega arith) c.offset.ensures.0 c.same_name.ensures c.if-same_name.false c.from-in-loop-k.ensures),
     )
 
 pub returns : goal.returns

@@ -3,7 +3,7 @@ use native.Mathlib.Nat.{add-zero}
 use Rattle.rules.specs.Bytes.{byte_at, fold, same_text}
 use Rattle.text.specs.Words.{same_text_start, same_text_turn, same_text_other, same_text_all}
 use Rattle.element_index.proofs.same_name.Goals as goal
-use Rattle.element_index.proofs.same_name.Goals.{then-x-y+else-folded, else-x-y}
+use Rattle.element_index.proofs.same_name.Goals.{else-x-y-via-then-x-y+else-folded, else-x-y-via-else-x-y}
 
 -- The byte that is compared next, as the code has it.
 further : (s : List ℕ) (a : ℕ) (t : List ℕ) (b n i j : ℕ) {v : Bool} → j ≡ i + 1 → same_text s (a + (i + 1)) t (b + (i + 1)) (n - (i + 1)) ≡ v
@@ -26,9 +26,9 @@ loop-i-preserved c h =
     let a = c.args in
     let i = c.loop-i.i in
     let same : fold (byte_at a.s.now (a.a + i)) ≡ fold (byte_at a.t.now (a.b + i)) =
-    elim c.if-x-y.branch [
-      | then-x-y+else-folded w ↦ omega (arith, w.folded.ensures, w.folded-then-x-y.ensures)
-      | else-x-y w ↦ let e : byte_at a.s.now (a.a + i) ≡ byte_at a.t.now (a.b + i) = w.if-x-y.false in ap fold e
+    elim c.else-x-y.branch [
+      | else-x-y-via-then-x-y+else-folded w ↦ omega (arith, w.folded.ensures, w.folded-then-x-y.ensures)
+      | else-x-y-via-else-x-y w ↦ let e : byte_at a.s.now (a.a + i) ≡ byte_at a.t.now (a.b + i) = w.if-x-y.false in ap fold e
     ] in
     further a.s.now a.a a.t.now a.b a.n i _ (omega arith)
     (same_text_turn a.s.now a.a a.t.now a.b a.n i c.loop-i-test.true same ∙ c.loop-i.invariant h)
