@@ -1,3 +1,3 @@
--- How much of a file was read, and laws of it.
+-- How much of a file was read.
 pub mod Loaded
 pub mod Loading

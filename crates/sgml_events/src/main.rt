@@ -6,7 +6,6 @@ ghost use Rattle.rules.specs.Printed.{Prints};
 ghost use Rattle.rules.specs.Bytes.{document_limit, type_limit};
 ghost use Rattle.sgml_events.specs.Files.{Whole};
 
-use file_reader::Loaded;
 use layout::{DOCUMENT_LIMIT, PROGRAM_TEXT, TYPE_LIMIT};
 use std::io;
 
@@ -35,12 +34,10 @@ fn main(rt: HostRuntime) {
     // Each buffer holds one byte more than the reader takes, so that it refuses what is longer.
     let mut s = [0u8; TYPE_LIMIT + 1];
     let mut d = [0u8; DOCUMENT_LIMIT + 1];
-    let a = file_reader::first_bytes(&rt, b"type.sgm", &mut s);
-    let Loaded::Bytes(x) = a else {
+    let Some(x) = file_reader::first_bytes(&rt, b"type.sgm", &mut s) else {
         return;
     };
-    let b = file_reader::first_bytes(&rt, b"doc.sgm", &mut d);
-    let Loaded::Bytes(y) = b else {
+    let Some(y) = file_reader::first_bytes(&rt, b"doc.sgm", &mut d) else {
         return;
     };
     let n = x.size;
