@@ -1,11 +1,11 @@
--- Laws of a buffer: stores in a row, and what one write after another leaves.
-use Rattle.std.specs.Prelude.{ℕ, suc, ◌+◌, ◌*◌, ◌/◌, ◌%◌, ◌≤◌, ◌<◌, ◌≡◌, refl, Bool, true, false, List, [], ◌∷◌, ◌++◌, drop, set, leb}
+-- Laws of a buffer: what one write after another leaves.
+use Rattle.std.specs.Prelude.{ℕ, ◌+◌, ◌-◌, ◌*◌, ◌≤◌, ◌<◌, ◌≡◌, refl, Bool, true, false, List, [], ◌∷◌, ◌++◌, drop, leb}
 use Rattle.std.proofs.Common.{sym, ◌∙◌, append_assoc, arith, add-one, length-append, length-drop, take-append-drop, length-take-le, take_at, drop-drop, le-leb, leb-true, leb-false}
 use Rattle.std.proofs.Math.Path.{ap}
 use Rattle.std.proofs.Math.ListN.{length, take, get_or}
 use Rattle.std.proofs.Math.Seq.{take-suc, drop-append-add}
-use Rattle.std.proofs.lemmas.List.Edits.{sets-eq}
 use Rattle.std.proofs.lemmas.Bool.{lt-leb}
+use Rattle.std.specs.Int.{w32, to_le_bytes}
 use Rattle.rules.specs.Lent.{Lent, numbers, bytes, bytes_of, standing, room, filled_with}
 use Rattle.rules.specs.TypeFile.{Content, empty, model, Element}
 use Rattle.rules.specs.Judge.{content_numbers, records, record_width}
@@ -131,39 +131,15 @@ written_more before l xs ys w h =
     ∙ splice_turn before l xs ys 0 (length xs) so_far (omega arith) (omega arith)
     ∙ splice_first before (xs ++ ys)
 
--- One store, and four or five in a row.
-pub one_stored : (l : List ℕ) (i x : ℕ) → i < length l → set l i x ≡ spliced l i (x ∷ [])
-one_stored l i x h = sets-eq (x ∷ []) l i (omega arith) ∙ append_assoc (take i l) (x ∷ []) (drop (i + 1) l)
-
-pub four_stored : (l : List ℕ) (i x y z w : ℕ) → i + 4 ≤ length l → set (set (set (set l i x) (i + 1) y) (i + 2) z) (i + 3) w ≡ spliced l i (x ∷ y ∷ z ∷ w ∷ [])
-four_stored l i x y z w h =
-    let one : i + 1 ≡ suc i = omega arith in
-    let two : i + 2 ≡ suc (suc i) = omega arith in
-    let three : i + 3 ≡ suc (suc (suc i)) = omega arith in
-    rw (one, two, three) (sets-eq (x ∷ y ∷ z ∷ w ∷ []) l i h ∙ append_assoc (take i l) (x ∷ y ∷ z ∷ w ∷ []) (drop (i + 4) l))
-
-pub five_stored : (l : List ℕ) (i x y z w v : ℕ) → i + 5 ≤ length l → set (set (set (set (set l i x) (i + 1) y) (i + 2) z) (i + 3) w) (i + 4) v ≡ spliced l i (x ∷ y ∷ z ∷ w ∷ v ∷ [])
-five_stored l i x y z w v h =
-    let one : i + 1 ≡ suc i = omega arith in
-    let two : i + 2 ≡ suc (suc i) = omega arith in
-    let three : i + 3 ≡ suc (suc (suc i)) = omega arith in
-    let four : i + 4 ≡ suc (suc (suc (suc i))) = omega arith in
-    rw (one, two, three, four) (sets-eq (x ∷ y ∷ z ∷ w ∷ v ∷ []) l i h ∙ append_assoc (take i l) (x ∷ y ∷ z ∷ w ∷ v ∷ []) (drop (i + 5) l))
-
--- A number stored as four bytes, low byte first.
-pub number_stored : (l : List ℕ) (i x : ℕ) → i + 4 ≤ length l → set (set (set (set l i (x % 256)) (i + 1) (x / 256 % 256)) (i + 2) (x / 65536 % 256)) (i + 3) (x / 16777216 % 256) ≡ written l i (bytes_of (x ∷ []))
+-- A number's four bytes in place of four, low byte first.
+pub number_stored : (l : List ℕ) (i x : ℕ) → i + 4 ≤ length l → take i l ++ (to_le_bytes w32 x ++ drop (i + 4 - i) (drop i l)) ≡ written l i (bytes_of (x ∷ []))
 unfolding bytes_of
-number_stored l i x h = four_stored l i _ _ _ _ h ∙ sym (written_fits l i (bytes_of (x ∷ [])) h)
+number_stored l i x h =
+    let four : i + 4 - i ≡ 4 = omega arith in
+    rw (four, drop-drop) (sym (written_fits l i (bytes_of (x ∷ [])) h))
 
--- The k-th number of `from` is written behind those before it, at b and on; as a number, and as four bytes.
+-- The four bytes of the k-th number of `from` are written behind those before it, at b and on.
 module _ (from l now : List ℕ) (b k at : ℕ) (is : k < length from) where
-  pub number_turn : now ≡ spliced l b (take k from) → length now ≡ length l → at ≡ b + k → at < length l → set now at (get_or from k 0) ≡ spliced l b (take (k + 1) from)
-  number_turn e same a h =
-      let xs = take k from in
-      let size = length-take-le k from (omega arith) in
-      one_stored now at (get_or from k 0) (omega arith) ∙ splice_turn l now xs (get_or from k 0 ∷ []) b at e (omega arith) (omega arith)
-      ∙ rw (add-one k, take-suc from k 0 is)
-
   pub bytes_turn : now ≡ spliced l b (bytes_of (take k from)) → at ≡ b + 4 * k → at + 4 ≤ length l → {after : List ℕ} → after ≡ written now at (bytes_of (get_or from k 0 ∷ [])) → after ≡ spliced l b (bytes_of (take (k + 1) from))
   unfolding bytes_of
   bytes_turn e a h w =

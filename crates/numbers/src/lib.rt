@@ -7,18 +7,20 @@ ghost use Rattle.numbers.specs.Written.{written};
 
 use layout::NUMBER;
 
+// Kept: three functions, since each says the bound of its own type, and u32 has no `Into<usize>` (plainer).
+//
 // A byte as an index.
 pub fn wide(b: u8) -> usize
     ensures { (result ≡ b) × (result < 256) }
 {
-    b as usize
+    usize::from(b)
 }
 
 // A number of 16 bits as an index.
 pub fn short(n: u16) -> usize
     ensures { (result ≡ n) × (result < 65536) }
 {
-    n as usize
+    usize::from(n)
 }
 
 // A number as an index.
@@ -33,12 +35,12 @@ pub fn put_number(buffer: &mut [u8], i: usize, x: u32)
     requires { i + 4 ≤ length buffer.old }
     ensures { buffer.new ≡ written buffer.old i (bytes_of (x ∷ [])) }
 {
-    buffer[i] = (x % 256) as u8;
-    buffer[i + 1] = (x / 256 % 256) as u8;
-    buffer[i + 2] = (x / 65536 % 256) as u8;
-    buffer[i + 3] = (x / 16777216 % 256) as u8;
+    buffer[i..i + 4].copy_from_slice(&x.to_le_bytes());
 }
 
+// Kept: two functions, since one copies the numbers and the other spreads each over four bytes; a type parameter would
+// only choose between the two bodies (plainer).
+//
 // The first n numbers of a table, at the start of a buffer.
 pub fn put_numbers(buffer: &mut [u32], table: &[u32], n: usize)
     requires { (n ≤ length table.now) × (n ≤ length buffer.old) }

@@ -1,6 +1,6 @@
-use Rattle.std.proofs.Common.{◌≡◌, sym, ◌∙◌, arith, take}
+use Rattle.std.proofs.Common.{sym, arith}
 use Rattle.rules.specs.Lent.{bytes_of}
-use Rattle.numbers.specs.Stores.{splice_none, splice_first, bytes_turn}
+use Rattle.numbers.specs.Stores.{splice_none, bytes_turn}
 use Rattle.numbers.proofs.put_bytes.Goals as goal
 
 pub loop-k-init : goal.loop-k-init

@@ -1,20 +1,6 @@
--- `put_number` meets its contract: the four stores are the number's four bytes.
-use native.Mathlib.Omega.{arith}
-use lib.ListN.{length-set}
+-- `put_number` meets its contract: what is copied are the number's four bytes.
 use Rattle.numbers.specs.Stores.{number_stored}
 use Rattle.numbers.proofs.put_number.Goals as goal
 
-pub bounds-buffer-i : goal.bounds-buffer-i
-bounds-buffer-i c = omega (arith, c.requires)
-
-pub bounds-buffer-i-2 : goal.bounds-buffer-i-2
-bounds-buffer-i-2 c = simp length-set (omega (arith, c.requires))
-
-pub bounds-buffer-i-3 : goal.bounds-buffer-i-3
-bounds-buffer-i-3 c = simp length-set (omega (arith, c.requires))
-
-pub bounds-buffer-i-4 : goal.bounds-buffer-i-4
-bounds-buffer-i-4 c = simp length-set (omega (arith, c.requires))
-
 pub returns : goal.returns
-returns c = let a = c.args in number_stored a.buffer.now a.i a.x c.requires
+returns c = rw (c.copy_from_slice.ensures.after, c.to_le_bytes.ensures) (number_stored c.args.buffer.now c.args.i c.args.x c.requires)
