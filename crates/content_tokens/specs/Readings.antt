@@ -1,5 +1,5 @@
 -- Laws of an answer and the reading that it stands for.
-use Rattle.std.specs.Prelude.{ℕ, ◌≤◌, ◌≡◌, refl, Result, Ok, Err, List}
+use Rattle.std.specs.Prelude.{ℕ, ◌≤◌, ◌≡◌, refl, Ok, List}
 use Rattle.std.proofs.Common.{ap, ◌∙◌, arith}
 use Rattle.rules.specs.Reading.{Reading, refused, got, and_then}
 use Rattle.rules.specs.TypeFile.{Tokens}

@@ -1,10 +1,10 @@
 -- Laws of the loops that search for a pair at fault: what each has done, a turn of it, and its end.
-use Rattle.std.specs.Prelude.{ℕ, zero, suc, ◌+◌, ◌-◌, ◌*◌, ◌≤◌, ◌<◌, ◌≡◌, Bool, true, ◌&&◌, ◌||◌, List, length, get_or, set, replicate}
+use Rattle.std.specs.Prelude.{ℕ, zero, suc, ◌+◌, ◌-◌, ◌≤◌, ◌<◌, ◌≡◌, Bool, true, ◌&&◌, ◌||◌, List, length, get_or, set, replicate}
 use Rattle.std.proofs.Math.Path.{refl, sym}
 use Rattle.std.proofs.Common.{ap, ◌∙◌, add-zero, add-one, arith, below_more, length-set, get_or-set_same, get_or-set_other}
 use Rattle.std.proofs.Math.Bool.{false, or-true, or-false, and-false, false≢true}
 use Rattle.rules.specs.Judge.{same_place}
-use Rattle.layout.specs.Sizes.{MODEL_ROW, POSITIONS}
+use Rattle.layout.specs.Sizes.{POSITIONS}
 use Rattle.basic_laws.specs.Truth.{not_true, and_left}
 use Rattle.basic_laws.specs.Numbers.{replicate_at}
 use Rattle.model_sets.specs.Search.{find_from, pair_or, pair_from, search_pair}

@@ -56,40 +56,42 @@ fn beside(table: &[u8; MODEL], n: usize, p: usize) -> [bool; POSITIONS]
     set
 }
 
-// Whether p and q, which some row has both, can both come next after one beginning. Without "&" the last place decides, so they can.
-fn is_fault(table: &[u8; MODEL], code: usize, and: bool, p: usize, q: usize) -> bool
-    ensures { (and ≡ false → result ≡ true) × (and ≡ true → Told table.now p q code result) }
-{
-    !and || model_code::clash(table, code, p, q)
-}
-
-// The first place after p that is at fault with it.
-fn partner(
-    s: &[u8],
-    names: &[u32; NAMES],
-    table: &[u8; MODEL],
-    keys: &[u32; POSITIONS],
+// A model that was read: the type file, the names of its n places, its table, how many numbers of code it has, and whether it has an "&".
+#[derive(Clone, Copy)]
+struct Whole<'a> {
+    s: &'a [u8],
+    names: &'a [u32; NAMES],
+    table: &'a [u8; MODEL],
     n: usize,
     code: usize,
     and: bool,
-    p: usize,
-) -> Option<usize>
-    requires n_bound { (n ≤ GRPGTCNT) × (1 ≤ p) × (p ≤ n) }
-    requires by_index { (x : ℕ) → 1 ≤ x → x ≤ n → get_or keys.now x 0 ≡ key_of s.now (place_in names.now (x - 1)) }
-    ensures by_index_2 { (F : ℕ → ℕ → Bool) → Tells table.now n code and F →
-        unwrap_or result 0 ≡ find_from (fault_in s.now names.now F n p) (n - p) (suc p) }
-    ensures fact { IfSome result (λ q. (p < q) × (q ≤ n)) }
+}
+
+// Whether p and q, which some row has both, can both come next after one beginning. Without "&" the last place decides, so they can.
+fn is_fault(m: Whole, p: usize, q: usize) -> bool
+    ensures { (m.entry.and ≡ false → result ≡ true) × (m.entry.and ≡ true → Told m.entry.table.now p q m.entry.code result) }
 {
-    if !same_names::shares_key(keys, n, p) {
+    !m.and || model_code::clash(m.table, m.code, p, q)
+}
+
+// The first place after p that is at fault with it.
+fn partner(m: Whole, keys: &[u32; POSITIONS], p: usize) -> Option<usize>
+    requires n_bound { (m.n ≤ GRPGTCNT) × (1 ≤ p) × (p ≤ m.n) }
+    requires by_index { (x : ℕ) → 1 ≤ x → x ≤ m.n → get_or keys.now x 0 ≡ key_of m.s.now (place_in m.names.now (x - 1)) }
+    ensures by_index_2 { (F : ℕ → ℕ → Bool) → Tells m.entry.table.now m.entry.n m.entry.code m.entry.and F →
+        unwrap_or result 0 ≡ find_from (fault_in m.entry.s.now m.entry.names.now F m.entry.n p) (m.entry.n - p) (suc p) }
+    ensures fact { IfSome result (λ q. (p < q) × (q ≤ m.entry.n)) }
+{
+    if !same_names::shares_key(keys, m.n, p) {
         return None;
     }
-    let mut q = same_names::same_name(s, names, keys, n, p, p + 1)?;
-    let near = beside(table, n, p);
+    let mut q = same_names::same_name(m.s, m.names, keys, m.n, p, p + 1)?;
+    let near = beside(m.table, m.n, p);
     loop {
-        if near[q] && is_fault(table, code, and, p, q) {
+        if near[q] && is_fault(m, p, q) {
             return Some(q);
         }
-        q = same_names::same_name(s, names, keys, n, p, q + 1)?;
+        q = same_names::same_name(m.s, m.names, keys, m.n, p, q + 1)?;
     }
 }
 
@@ -108,8 +110,16 @@ pub fn first_pair(
     ensures fact { IfSome result (λ r. (1 ≤ r.first) × (r.first < r.second) × (r.second ≤ n)) }
 {
     let keys = same_names::keys_of(s, names, n);
+    let m = Whole {
+        s: s,
+        names: names,
+        table: table,
+        n: n,
+        code: code,
+        and: and,
+    };
     for p in 1..n + 1 {
-        if let Some(q) = partner(s, names, table, &keys, n, code, and, p) {
+        if let Some(q) = partner(m, &keys, p) {
             return Some(Pair {
                 first: p,
                 second: q,

@@ -1,5 +1,5 @@
 -- `data_token` meets its contract: the word after `#`, then the room for a token; then the new place, which repeats or is left out.
-use Rattle.std.proofs.Common.{◌≡◌, ◌+◌, true, false, refl, sym, ap, ◌∙◌, arith}
+use Rattle.std.proofs.Common.{◌≡◌, ◌+◌, true, false, sym, ap, ◌∙◌, arith}
 use Rattle.rules.specs.Bytes.{byte_at, letter}
 use Rattle.text.specs.Words.{name_end_from, name_end_le}
 use Rattle.content_tokens.specs.Readings.{got_meets, refuses}

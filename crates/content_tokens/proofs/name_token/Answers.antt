@@ -1,5 +1,5 @@
 -- `name_token` meets its contract: the name's size, then the room for a token; then the new place with its indicator.
-use Rattle.std.proofs.Common.{refl, arith}
+use Rattle.std.proofs.Common.{arith}
 use Rattle.text.specs.Words.{name_end_from, name_end_le}
 use Rattle.content_tokens.specs.Readings.{got_meets, refuses}
 use Rattle.content_tokens.specs.Tokens.{name_long, name_full, name_got, new_place_lem}

@@ -1,5 +1,5 @@
 -- `first_pair` meets its contract. The invariant: no place before `p` is in a pair at fault, so what is still to be searched gives the answer.
-use Prim.Native.Nat.{ℕ, ◌+◌, ◌-◌, ◌≤◌}
+use Prim.Native.Nat.{ℕ, ◌+◌, ◌≤◌}
 use mathlib.Core.Bool.{Bool}
 use Rattle.model_pairs.specs.Rows.{Tells}
 use Rattle.model_pairs.specs.Seeks.{SeeksPair}

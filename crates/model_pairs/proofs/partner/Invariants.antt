@@ -10,7 +10,7 @@ use Rattle.model_pairs.specs.Seeks.{Seeks}
 use Rattle.model_pairs.proofs.partner.Given as goal
 
 abbrev pub invariant-loop-q : goal.invariant-loop-q
-invariant-loop-q l = ((F : ℕ → ℕ → Bool) → Tells l.table l.n l.code l.and F → Seeks l.s l.names F l.n l.p l.q) × (l.p < l.q) × (l.q ≤ l.n) × (same_place l.s (places_of l.names l.n) l.p l.q ≡ true) × (1 ≤ l.p) × (l.n ≤ GRPGTCNT)
+invariant-loop-q l = ((F : ℕ → ℕ → Bool) → Tells l.m.table.now l.m.n l.m.code l.m.and F → Seeks l.m.s.now l.m.names.now F l.m.n l.p l.q) × (l.p < l.q) × (l.q ≤ l.m.n) × (same_place l.m.s.now (places_of l.m.names.now l.m.n) l.p l.q ≡ true) × (1 ≤ l.p) × (l.m.n ≤ GRPGTCNT)
 
 abbrev pub decreases-loop-q : goal.decreases-loop-q
-decreases-loop-q l = l.n + 1 - l.q
+decreases-loop-q l = l.m.n + 1 - l.q

@@ -1,5 +1,5 @@
 -- `with_next` meets its contract. The invariant: the places below `q` that may come next are added to the set.
-use Prim.Native.Nat.{ℕ, ◌≤◌, ◌-◌}
+use Prim.Native.Nat.{ℕ, ◌≤◌}
 use lib.ListN.{get_or}
 use Rattle.layout.specs.Sizes.{POSITIONS}
 use Rattle.model_pairs.specs.Rows.{is_next}

@@ -1,6 +1,6 @@
 -- `put_row` meets its contract. The invariant: the first `j` numbers of the row are put, whichever element has its row there.
 use mathlib.Core.Path.{◌≡◌}
-use Prim.Native.Nat.{ℕ, ◌-◌, ◌≤◌}
+use Prim.Native.Nat.{ℕ, ◌≤◌}
 use Rattle.rules.specs.Bytes.{element_limit}
 use Rattle.layout.specs.Sizes.{LAST_BITS}
 use Rattle.type_tables.specs.Tables.{row_at}

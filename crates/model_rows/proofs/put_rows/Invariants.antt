@@ -1,5 +1,5 @@
 -- `put_rows` meets its contract. The invariant: the rows below `u` are put, into whatever the first was put.
-use Prim.Native.Nat.{◌+◌, ◌-◌, ◌≤◌}
+use Prim.Native.Nat.{◌+◌, ◌≤◌}
 use mathlib.Core.Path.{◌≡◌}
 use mathlib.Core.List.{List}
 use Prim.Native.Nat.{ℕ}

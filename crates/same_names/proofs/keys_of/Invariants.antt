@@ -1,5 +1,5 @@
 -- `keys_of` meets its contract. The invariant: the keys of the places before `p` are known.
-use Prim.Native.Nat.{◌+◌, ◌-◌, ◌≤◌}
+use Prim.Native.Nat.{◌+◌, ◌≤◌}
 use Rattle.same_names.specs.Keys.{Keyed}
 use Rattle.same_names.proofs.keys_of.Given as goal
 

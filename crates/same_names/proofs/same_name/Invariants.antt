@@ -1,5 +1,5 @@
 -- `same_name` meets its contract. The invariant: no place from `q` on before `i` has the name of `p`.
-use Prim.Native.Nat.{◌+◌, ◌-◌, ◌≤◌}
+use Prim.Native.Nat.{◌+◌, ◌≤◌}
 use Rattle.same_names.specs.Keys.{Unlike}
 use Rattle.same_names.proofs.same_name.Given as goal
 

@@ -1,5 +1,4 @@
 -- `shares_key` meets its contract. The invariant: what was found so far, or is still to be looked at, gives the answer.
-use Prim.Native.Nat.{◌+◌, ◌-◌}
 use lib.ListN.{get_or}
 use Rattle.same_names.specs.Keys.{Shares}
 use Rattle.same_names.proofs.shares_key.Given as goal
