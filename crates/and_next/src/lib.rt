@@ -69,8 +69,14 @@ fn may_come(m: Members, h: usize, i: usize, b: Bits) -> bool
     if AND_GROUPS < f {
         return true;
     }
-    let last = Member { number: h, group: g };
-    let next = Member { number: i, group: f };
+    let last = Member {
+        number: h,
+        group: g,
+    };
+    let next = Member {
+        number: i,
+        group: f,
+    };
     is_left(m, last, next, b)
 }
 

@@ -81,7 +81,10 @@ impl<'a> Members<'a> {
         requires { (g ≤ 255) × (which ≤ 3) }
         ensures { (result ≡ get_or self.entry.table.now (record_at self.entry.table.now self.entry.e.0 g + which) 0) × (result ≤ 255) }
     {
-        number(self.table, self.e.0 * MEMBER + 3 * POSITIONS + g * GROUP + which)
+        number(
+            self.table,
+            self.e.0 * MEMBER + 3 * POSITIONS + g * GROUP + which,
+        )
     }
 
     // The outermost group around the group g that can end with it, each of those between with it.

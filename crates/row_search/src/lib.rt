@@ -39,12 +39,7 @@ fn smaller(places: &[u8; PLACES], e: ElementNo, p: Place) -> Place
 
 // The largest of the place p and the smaller ones of its name, which are linked downwards, that may come next, or 0.
 // Kept: `Place(0)` for none: (plainer) the links, the facts and the rules' `fits` have 0 there too.
-fn search<F: Fn(Place) -> bool>(
-    places: &[u8; PLACES],
-    e: ElementNo,
-    p: Place,
-    may_come: F,
-) -> Place
+fn search<F: Fn(Place) -> bool>(places: &[u8; PLACES], e: ElementNo, p: Place, may_come: F) -> Place
     requires place { (e.0 ≤ element_limit) × (p.0 ≤ GRPGTCNT) }
     requires callable { (q : Place) → q.0 ≤ GRPGTCNT → F.pre may_come q }
     ensures { Largest (λ q b. F.post may_come (record { 0 = q }) b) places.now e.0 p.0 result.0 }
@@ -101,8 +96,6 @@ pub fn largest_among(
         |q|
             requires { (level ≤ TAGLVL) × (e.0 ≤ element_limit) × (u.0 ≤ GRPGTCNT) × (q.0 ≤ GRPGTCNT) }
             ensures { BothSay rows.entry.now members.entry.now begun.entry.now level e.0 u.0 q.0 result }
-        {
-            bit(rows, e, u, q) && and_next::may_follow(members, begun, level, e, u, q)
-        },
+        { bit(rows, e, u, q) && and_next::may_follow(members, begun, level, e, u, q) },
     )
 }
