@@ -4,6 +4,22 @@ use Rattle.rules.specs.Bytes.{same_text}
 use Rattle.rules.specs.Reading.{got}
 use Rattle.rules.specs.Attributes.{Part, DeclaredValue, cdata, number, name, tokens}
 use Rattle.rules.specs.TypeFile.{TokensEnd, token_group}
+use Rattle.attribute_values.specs.declared.DeclaredValue as code
+use Rattle.attribute_values.specs.declared.DeclaredValue.TheVariants as values
+
+-- The number of a declared value.
+abbrev pub number_of : code.DeclaredValue → ℕ
+number_of values.Cdata = 0
+number_of values.Number = 1
+number_of values.Name = 2
+number_of (values.Group at) = at
+
+-- A group's is none of a word.
+abbrev pub Grouped : code.DeclaredValue → Type 0
+Grouped values.Cdata = Unit {0}
+Grouped values.Number = Unit {0}
+Grouped values.Name = Unit {0}
+Grouped (values.Group at) = 3 ≤ at
 
 -- So many bytes of t from `at` on; none where they do not lie in it.
 abbrev pub part_in : (t : List ℕ) (at size : ℕ) → List ℕ

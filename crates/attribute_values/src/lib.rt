@@ -1,16 +1,52 @@
 // The value of an attribute: which part of which text it is, and whether it fits what is declared.
 //
-// A declared value is a number: 0 CDATA, 1 NUMBER, 2 NAME, else where the "(" of a name token group stands in the type file.
+// A declared value has a number: 0 CDATA, 1 NUMBER, 2 NAME, else where the "(" of a name token group stands in the type file.
 #![tactic(auto)]
 
 ghost use Rattle.std.specs.List.{list_all};
 ghost use Rattle.std.specs.Prelude.{◌≡◌, ◌||◌, List, ℕ, ◌+◌, ◌-◌, ◌≤◌, ◌<◌, length, eqb};
 ghost use Rattle.rules.specs.Bytes.{digit, RE, RS, TAB, type_limit};
-ghost use Rattle.rules.specs.Attributes.{Part, DeclaredValue, number, name, is_one_of};
+ghost use Rattle.rules.specs.Attributes.{Part, number, name, is_one_of};
 ghost use Rattle.rules.specs.Attributes as rules;
 ghost use Rattle.rules.specs.Given.{value_bytes};
-ghost use Rattle.attribute_values.specs.Parts.{part_in, is_same, GroupAt, DeclaredAs};
+ghost use Rattle.attribute_values.specs.Parts.{number_of, Grouped, part_in, is_same, GroupAt, DeclaredAs};
 ghost use Rattle.attribute_values.specs.Tests.{plain};
+
+// A declared value: a word, or a name token group, whose "(" stands there in the type file.
+#[derive(Clone, Copy, Debug, PartialEq, Eq)]
+pub enum DeclaredValue {
+    Cdata,
+    Number,
+    Name,
+    Group(usize),
+}
+
+impl DeclaredValue {
+    // The number that stands for it.
+    pub fn number(self) -> usize
+        ensures { result ≡ number_of self }
+    {
+        match self {
+            DeclaredValue::Cdata => 0,
+            DeclaredValue::Number => 1,
+            DeclaredValue::Name => 2,
+            DeclaredValue::Group(at) => at,
+        }
+    }
+}
+
+impl From<usize> for DeclaredValue {
+    ghost from_gives = { λ x v. (number_of v ≡ x) × Grouped v };
+
+    fn from(x: usize) -> DeclaredValue {
+        match x {
+            0 => DeclaredValue::Cdata,
+            1 => DeclaredValue::Number,
+            2 => DeclaredValue::Name,
+            at => DeclaredValue::Group(at),
+        }
+    }
+}
 
 // A part of a text; none of it where the part does not lie in it.
 fn part(t: &[u8], at: usize, size: usize) -> &[u8]
@@ -117,18 +153,15 @@ fn is_in_group(s: &[u8], at: usize, v: &[u8]) -> bool
 }
 
 // Whether the value fits the declared value x of the type file s. Where that is none's the answer is not decided.
+// Kept: x is any number, and no `DeclaredValue` (fixed: docs/PROMISES.md names `fits`, and the table of lists holds numbers).
 pub fn fits(long: usize, s: &[u8], x: usize, v: &[u8]) -> bool
     requires { length s.now ≤ type_limit }
-    ensures { (y : DeclaredValue) → DeclaredAs long s.now x y → result ≡ rules.fits long s.now y v.now }
+    ensures { (y : rules.DeclaredValue) → DeclaredAs long s.now x y → result ≡ rules.fits long s.now y v.now }
 {
-    if x == 0 {
-        return is_cdata(v);
+    match DeclaredValue::from(x) {
+        DeclaredValue::Cdata => is_cdata(v),
+        DeclaredValue::Number => is_number(long, v),
+        DeclaredValue::Name => is_name(long, v),
+        DeclaredValue::Group(at) => is_in_group(s, at, v),
     }
-    if x == 1 {
-        return is_number(long, v);
-    }
-    if x == 2 {
-        return is_name(long, v);
-    }
-    is_in_group(s, x, v)
 }
