@@ -6,12 +6,17 @@ use Rattle.std.proofs.Math.Dec.{ltb}
 use borrow.Author.Tests.{eq-eqb, ne_eqb, le-leb, lt-leb, ltb-true, ltb-false, not-true, not-false}
 use Rattle.rules.specs.Bytes.{byte_at, letter, name_end, RNI}
 use Rattle.rules.specs.Reading.{refused, got, and_then}
-use Rattle.rules.specs.Attributes.{bytes_in, quote, literal_end, DeclaredValue, literal, fits}
+use Rattle.rules.specs.Attributes.{bytes_in, quote, literal_end, DeclaredValue, required, implied, literal, fits}
 use Rattle.rules.specs.Given.{value_bytes}
 use Rattle.rules.specs.TypeFile.{is_word, is_cut, REQUIRED, IMPLIED, unfit, default_word, default_literal, is_group, default_value}
 use Rattle.text.specs.Words.{test_in}
+use Rattle.attribute_values.specs.declared.DeclaredValue as code
+use Rattle.attribute_values.specs.declared.DeclaredValue.TheVariants as values
+use Rattle.attribute_values.specs.Parts as values_of
 use Rattle.attribute_values.specs.Parts.{DeclaredAs, as_cdata, as_number, as_name, as_tokens}
-use Rattle.attribute_defaults.specs.DefaultOf.{default_is}
+use Rattle.attribute_defaults.specs.declared.DefaultValue.{DefaultValue}
+use Rattle.attribute_defaults.specs.declared.DefaultValue.TheVariants.{Required, Implied, Literal}
+use Rattle.attribute_defaults.specs.DefaultOf.{default_is, kind_of, number_of, width_of, Apart}
 
 -- Words
 
@@ -21,12 +26,12 @@ module _ (s : List ℕ) (i : ℕ) where
   word_none l = rw (default_word, l)
 
   module _ (l : letter (byte_at s (i + 1)) ≡ true) (e : ℕ) (ends : e ≡ name_end s (i + 1)) {a : Bool} (is_required : a ≡ is_word s (i + 1) e REQUIRED) where
-    pub word_required : a ≡ true → got (record { default = default_is 0 0; at = e }) ≡ default_word s i
+    pub word_required : a ≡ true → got (record { default = required; at = e }) ≡ default_word s i
     unfolding default_word
     word_required h = rw (default_word, l, ← ends, ← is_required, h, ends)
 
     module _ (other : a ≡ false) {b : Bool} (is_implied : b ≡ is_word s (i + 1) e IMPLIED) where
-      pub word_implied : b ≡ true → got (record { default = default_is 1 0; at = e }) ≡ default_word s i
+      pub word_implied : b ≡ true → got (record { default = implied; at = e }) ≡ default_word s i
       unfolding default_word
       word_implied h = rw (default_word, l, ← ends, ← is_required, other, ← ends, ← is_implied, h, ends)
 
@@ -47,8 +52,14 @@ module _ (s : List ℕ) (i : ℕ) where
 -- Literals
 
 -- A value that begins behind two bytes is no word's number.
-pub value_is : (x n : ℕ) → 2 ≤ x → default_is x n ≡ literal (record { at = x; size = n })
+value_is : (x n : ℕ) → 2 ≤ x → default_is x n ≡ literal (record { at = x; size = n })
 value_is x n h = rw (default_is, ne_eqb x 0 (λ e. omega arith), ne_eqb x 1 (λ e. omega arith))
+
+-- So the numbers of a default stand for it.
+pub kind_is : (v : DefaultValue) → Apart v → default_is (number_of v) (width_of v) ≡ kind_of v
+kind_is Required h = refl
+kind_is Implied h = refl
+kind_is (Literal at n) h = value_is at n h
 
 module _ (long : ℕ) (s : List ℕ) (y : DeclaredValue) (i : ℕ) where
   pub literal_refused : (a b : ℕ) → literal_end s i ≡ refused a b → default_literal long s y i ≡ refused a b
@@ -66,9 +77,9 @@ module _ (long : ℕ) (s : List ℕ) (y : DeclaredValue) (i : ℕ) where
     unfolding default_literal
     literal_misfit q = rw (default_literal, h, and_then, sym right ∙ q)
 
-    pub literal_fits : 1 ≤ i → b ≡ true → got (record { default = default_is (i + 1) (e - (i + 1)); at = e + 1 }) ≡ default_literal long s y i
+    pub literal_fits : b ≡ true → got (record { default = literal (record { at = i + 1; size = e - (i + 1) }); at = e + 1 }) ≡ default_literal long s y i
     unfolding default_literal
-    literal_fits m q = rw (value_is (i + 1) (e - (i + 1)) (omega arith), default_literal, h, and_then, sym right ∙ q)
+    literal_fits q = rw (default_literal, h, and_then, sym right ∙ q)
 
 -- A default
 
@@ -81,6 +92,13 @@ joined_group from i h as_cdata = absurd (omega (arith, h))
 joined_group from i h as_number = absurd (omega (arith, h))
 joined_group from i h as_name = absurd (omega (arith, h))
 joined_group from i h (as_tokens at ps g k) = refl
+
+-- What is no group has a word's number.
+pub word_small : (v : code.DeclaredValue) {x : ℕ} → values_of.number_of v ≡ x → ((at : ℕ) → v ≡ values.Group at → ⊥) → x < 3
+word_small values.Cdata e n = omega (arith, e)
+word_small values.Number e n = omega (arith, e)
+word_small values.Name e n = omega (arith, e)
+word_small (values.Group at) e n = absurd (n at refl)
 
 pub joined_word : {long : ℕ} {s : List ℕ} {x : ℕ} {y : DeclaredValue} (from i : ℕ) → x < 3 → DeclaredAs long s x y → {r : Bool} → r ≡ not (ltb from i) → r ≡ is_joined y from i
 joined_word from i h as_cdata e = e

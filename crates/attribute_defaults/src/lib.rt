@@ -1,23 +1,55 @@
 // The default of an attribute: `#REQUIRED`, `#IMPLIED` or a literal that fits the declared value.
 //
-// A default is two numbers: 0 `#REQUIRED`, 1 `#IMPLIED`, else where the value of the literal begins; and how long that value is.
+// A default has two numbers: 0 `#REQUIRED`, 1 `#IMPLIED`, else where the value of the literal begins; and how long that value is.
 #![tactic(auto)]
 
 ghost use Rattle.std.specs.Prelude.{◌≡◌, List, ℕ, ◌+◌, ◌≤◌, ◌<◌, length};
-ghost use Rattle.rules.specs.Attributes.{DeclaredValue};
+ghost use Rattle.rules.specs.Attributes as rules;
 ghost use Rattle.rules.specs.TypeFile.{default_word, default_literal, default_value};
 ghost use Rattle.rules.specs.Bytes.{type_limit};
 ghost use Rattle.attribute_values.specs.Parts.{DeclaredAs};
-ghost use Rattle.attribute_defaults.specs.DefaultOf.{default_of, DefaultFits};
+ghost use Rattle.attribute_defaults.specs.DefaultOf.{number_of, width_of, default_of, DefaultFits};
 ghost use Rattle.attribute_defaults.specs.Ways.{is_joined};
 
+use attribute_values::DeclaredValue;
 use text::{Reading, Refusal};
 
-// The default, the length of its value, and where it ends.
+// The default of an attribute; of a literal, where its value begins, and how long that is.
+#[derive(Clone, Copy, Debug, PartialEq, Eq)]
+pub enum DefaultValue {
+    Required,
+    Implied,
+    Literal(usize, usize),
+}
+
+impl DefaultValue {
+    // The number that stands for it.
+    pub fn number(self) -> usize
+        ensures { result ≡ number_of self }
+    {
+        match self {
+            DefaultValue::Required => 0,
+            DefaultValue::Implied => 1,
+            DefaultValue::Literal(at, _) => at,
+        }
+    }
+
+    // How long its value is.
+    pub fn width(self) -> usize
+        ensures { result ≡ width_of self }
+    {
+        match self {
+            DefaultValue::Required => 0,
+            DefaultValue::Implied => 0,
+            DefaultValue::Literal(_, width) => width,
+        }
+    }
+}
+
+// A default, and where it ends.
 #[derive(Clone, Copy, Debug, PartialEq, Eq)]
 pub struct Defaulted {
-    pub value: usize,
-    pub width: usize,
+    pub value: DefaultValue,
     pub at: usize,
 }
 
@@ -32,15 +64,13 @@ fn word_at(s: &[u8], i: usize) -> Reading<Defaulted>
     let e = text::name_end(s, i + 1);
     if words::is_word(s, i + 1, e, b"REQUIRED") {
         return Ok(Defaulted {
-            value: 0,
-            width: 0,
+            value: DefaultValue::Required,
             at: e,
         });
     }
     if words::is_word(s, i + 1, e, b"IMPLIED") {
         return Ok(Defaulted {
-            value: 1,
-            width: 0,
+            value: DefaultValue::Implied,
             at: e,
         });
     }
@@ -56,15 +86,14 @@ fn word_at(s: &[u8], i: usize) -> Reading<Defaulted>
 // A literal, from its opening quote at i, for the declared value x.
 fn literal_at(long: usize, s: &[u8], x: usize, i: usize) -> Reading<Defaulted>
     requires { (1 ≤ i) × (i < length s.now) × (length s.now ≤ type_limit) }
-    ensures { ((y : DeclaredValue) → DeclaredAs long s.now x y → default_of result ≡ default_literal long s.now y i) × DefaultFits (length s.now) i result }
+    ensures { ((y : rules.DeclaredValue) → DeclaredAs long s.now x y → default_of result ≡ default_literal long s.now y i) × DefaultFits (length s.now) i result }
 {
     let e = literals::literal_end(s, i)?;
     let size = e - (i + 1);
     let v = attribute_values::value(s, s, false, i + 1, size);
     if attribute_values::fits(long, s, x, v) {
         return Ok(Defaulted {
-            value: i + 1,
-            width: size,
+            value: DefaultValue::Literal(i + 1, size),
             at: e + 1,
         });
     }
@@ -73,18 +102,19 @@ fn literal_at(long: usize, s: &[u8], x: usize, i: usize) -> Reading<Defaulted>
 
 // Whether nothing parts the default at i from its declared value x, which ended at `from`: a group needs nothing between it and what follows.
 fn is_joined(x: usize, from: usize, i: usize) -> bool
-    ensures { (long : ℕ) (s : List ℕ) (y : DeclaredValue) → DeclaredAs long s x y → result ≡ is_joined y from i }
+    ensures { (long : ℕ) (s : List ℕ) (y : rules.DeclaredValue) → DeclaredAs long s x y → result ≡ is_joined y from i }
 {
-    if 3 <= x {
-        return false;
+    match DeclaredValue::from(x) {
+        DeclaredValue::Group(_) => false,
+        _ => i <= from,
     }
-    i <= from
 }
 
 // The default at i of an attribute with the declared value x, which ended at `from`.
+// Kept: x is any number, and no `DeclaredValue` (fixed: docs/PROMISES.md names `default_at`).
 pub fn default_at(long: usize, s: &[u8], x: usize, from: usize, i: usize) -> Reading<Defaulted>
     requires { (1 ≤ i) × (i ≤ length s.now) × (length s.now ≤ type_limit) }
-    ensures { ((y : DeclaredValue) → DeclaredAs long s.now x y → default_of result ≡ default_value long s.now y from i) × DefaultFits (length s.now) i result }
+    ensures { ((y : rules.DeclaredValue) → DeclaredAs long s.now x y → default_of result ≡ default_value long s.now y from i) × DefaultFits (length s.now) i result }
 {
     let b = text::byte(s, i);
     if b == b'#' {

@@ -7,7 +7,7 @@ use Rattle.rules.specs.TypeFile.{tokens_of, ValueEnd, Definition}
 use Rattle.text.specs.declared.Fault.{Fault}
 use Rattle.text.specs.Refusal.{refusal_of}
 use Rattle.name_tokens.specs.Tokens.{parts_of}
-use Rattle.attribute_values.specs.Parts.{DeclaredAs}
+use Rattle.attribute_values.specs.Parts.{number_of, DeclaredAs}
 use Rattle.list_table.specs.declared.Row.{Row}
 use Rattle.list_table.specs.Lists.{Short, RowOf}
 use Rattle.attribute_definitions.specs.declared.Declared.{Declared}
@@ -25,12 +25,12 @@ abbrev pub word_is : ℕ → DeclaredValue
 word_is x = elim (eqb x 0) [ true ↦ cdata | false ↦ elim (eqb x 1) [ true ↦ number | false ↦ name ] ]
 
 abbrev pub word_of : Result Declared Fault → Reading ValueEnd
-word_of (Ok v) = got (record { value = word_is v.value; at = v.at })
+word_of (Ok v) = got (record { value = word_is (number_of v.value); at = v.at })
 word_of (Err f) = refusal_of f
 
 -- A word brings no token.
 abbrev pub WordFits : (end i m : ℕ) → Result Declared Fault → Type 0
-WordFits end i m (Ok v) = (v.value ≤ 2) × (v.tokens ≡ m) × (i ≤ v.at) × (v.at ≤ end)
+WordFits end i m (Ok v) = (number_of v.value ≤ 2) × (v.tokens ≡ m) × (i ≤ v.at) × (v.at ≤ end)
 WordFits end i m (Err f) = Unit {0}
 
 -- The tokens of a declared value.
@@ -48,12 +48,12 @@ pub record ValueAs (long : ℕ) (s seen : List ℕ) (x k e : ℕ) (ts : List Par
   pub parts : parts_of seen k ≡ ts ++ tokens_in value
 
 abbrev pub MeetsValue : ℕ → (s seen : List ℕ) (ts : List Part) → Result Declared Fault → Reading ValueEnd → Type 0
-MeetsValue long s seen ts (Ok v) y = ValueAs long s seen v.value v.tokens v.at ts y
+MeetsValue long s seen ts (Ok v) y = ValueAs long s seen (number_of v.value) v.tokens v.at ts y
 MeetsValue long s seen ts (Err f) y = y ≡ refusal_of f
 
 -- Whatever the table of tokens holds.
 abbrev pub ValueFits : (end i m : ℕ) → Result Declared Fault → Type 0
-ValueFits end i m (Ok v) = (v.value ≤ end) × (i ≤ v.at) × (v.at ≤ end) × (v.tokens ≤ m + GRPCNT)
+ValueFits end i m (Ok v) = (number_of v.value ≤ end) × (i ≤ v.at) × (v.at ≤ end) × (v.tokens ≤ m + GRPCNT)
 ValueFits end i m (Err f) = Unit {0}
 
 -- Definitions are read.

@@ -5,13 +5,13 @@ use Rattle.std.proofs.Common.{sym, ◌∙◌, ap, append-nil, append_assoc, arit
 use borrow.Author.Tests.{eq-eqb, ne_eqb, lt-ltb, le-ltb, le-leb, lt-leb}
 use Rattle.rules.specs.Bytes.{byte_at, letter, name_end, ATTCNT, GRPO}
 use Rattle.rules.specs.Reading.{Reading, refused, got}
-use Rattle.rules.specs.Attributes.{Part, DeclaredValue, cdata, number, name, tokens, Attribute, attribute_of}
+use Rattle.rules.specs.Attributes.{Part, DeclaredValue, cdata, number, name, tokens, Default, Attribute, attribute_of}
 use Rattle.rules.specs.TypeFile.{gap, is_word, is_cut, CDATA, NUMBER, NAME, unfit, token_group, tokens_of, attribute_name, ValueEnd, value_word, declared_value, DefaultEnd, default_value, definition}
 use Rattle.text.specs.declared.Fault.{Fault}
 use Rattle.text.specs.Refusal.{refusal_of}
 use Rattle.text.specs.Words.{test_in}
 use Rattle.name_tokens.specs.Tokens.{parts_of, ReadAs}
-use Rattle.attribute_values.specs.Parts.{as_cdata, as_number, as_name, as_tokens}
+use Rattle.attribute_values.specs.Parts.{number_of, as_cdata, as_number, as_name, as_tokens}
 use Rattle.attribute_defaults.specs.DefaultOf.{default_is}
 use Rattle.attribute_definitions.specs.declared.Declared.{Declared}
 use Rattle.attribute_definitions.specs.Definition.{word_is, word_of, WordFits, tokens_in, ValueAs, MeetsValue, ValueFits, DefinedAs}
@@ -174,24 +174,28 @@ parenthesis_in s i h = test_in (λ b. eqb b GRPO) refl s i (eq-eqb _ _ h)
 
 -- A word that is read as declared value, and one that is refused.
 pub word_meets : (long : ℕ) (s seen : List ℕ) (m i : ℕ) (r : Result Declared Fault) {x : Reading ValueEnd} → x ≡ value_word long s i → word_of r ≡ value_word long s i → WordFits (length s) i m r → MeetsValue long s seen (parts_of seen m) r x
-word_meets long s seen m i (Ok v) q h w = word_value long s seen v.value v.tokens m v.at w.0 w.1 (q ∙ sym h)
+word_meets long s seen m i (Ok v) q h w = word_value long s seen (number_of v.value) v.tokens m v.at w.0 w.1 (q ∙ sym h)
 word_meets long s seen m i (Err f) q h w = q ∙ sym h
 
 pub word_within : {end : ℕ} (i m : ℕ) (r : Result Declared Fault) → 2 ≤ end → WordFits end i m r → ValueFits end i m r
 word_within i m (Ok v) l w = omega (arith, w, l)
 word_within i m (Err f) l w = tt
 
+-- A declared value by its number.
+pub value_numbered : {long : ℕ} {s seen : List ℕ} {x w k e : ℕ} {ts : List Part} {y : Reading ValueEnd} → w ≡ x → ValueAs long s seen x k e ts y → ValueAs long s seen w k e ts y
+value_numbered q v = record { value = v.value; read = v.read; declared = rw q v.declared; parts = v.parts }
+
 -- A definition that was read, as a row.
 module _ (long : ℕ) (s : List ℕ) (xs : List Attribute) (from i : ℕ) where
-  pub definition_row : (seen : List ℕ) {e j x k f l d n z : ℕ} {ts : List Part} → i ≤ e → e ≤ length s → ts ≡ tokens_of xs → attribute_name long s xs from i ≡ got e → gap s e ≡ got j
-      → (v : ValueAs long s seen x k f ts (declared_value long s ts j)) → gap s f ≡ got l → default_value long s v.value f l ≡ got (record { default = default_is d n; at = z })
+  pub definition_row : (seen : List ℕ) {e j x k f l d n z : ℕ} {b : Default} {ts : List Part} → i ≤ e → e ≤ length s → ts ≡ tokens_of xs → attribute_name long s xs from i ≡ got e → gap s e ≡ got j
+      → (v : ValueAs long s seen x k f ts (declared_value long s ts j)) → gap s f ≡ got l → default_value long s v.value f l ≡ got (record { default = b; at = z }) → default_is d n ≡ b
       → DefinedAs long s seen (record { name = i; size = e - i; value = x; default = d; width = n }) k z xs (definition long s xs from i)
-  definition_row seen {e} {j} {x} {k} {f} {l} {d} {n} {z} {ts} lo hi p a g v h q =
-      let y : Attribute = record { at = i; size = e - i; value = v.value; default = default_is d n } in
+  definition_row seen {e} {j} {x} {k} {f} {l} {d} {n} {z} {b} {ts} lo hi p a g v h q r =
+      let y : Attribute = record { at = i; size = e - i; value = v.value; default = b } in
       let w : declared_value long s (tokens_of xs) j ≡ got (record { value = v.value; at = f }) = ap (λ us. declared_value long s us j) (sym p) ∙ v.read in
       record {
         attribute = y;
         read = definition_got long s xs from i a g w h q;
-        row = record { name = refl; size = refl; inside = omega (arith, lo, hi); value = v.declared; default = refl };
+        row = record { name = refl; size = refl; inside = omega (arith, lo, hi); value = v.declared; default = r };
         parts = v.parts ∙ ap (λ us. us ++ tokens_in v.value) p ∙ sym (tokens_more xs y);
       }

@@ -12,6 +12,7 @@ ghost use Rattle.name_tokens.specs.Tokens.{parts_of};
 ghost use Rattle.list_table.specs.Lists.{ListAt};
 ghost use Rattle.attribute_definitions.specs.Definition.{NameFits, word_of, WordFits, MeetsValue, ValueFits, MeetsDefinition, DefinitionFits};
 
+use attribute_values::DeclaredValue;
 use layout::{ATTCNT, ElementNo, LIST, TOKENS};
 use list_table::Row;
 use text::{Reading, Refusal};
@@ -19,7 +20,7 @@ use text::{Reading, Refusal};
 // A declared value, how many tokens the list has now, and where the value ends.
 #[derive(Clone, Copy, Debug, PartialEq, Eq)]
 pub struct Declared {
-    pub value: usize,
+    pub value: DeclaredValue,
     pub tokens: usize,
     pub at: usize,
 }
@@ -73,21 +74,21 @@ fn word_at(long: usize, s: &[u8], i: usize, m: usize) -> Reading<Declared>
     }
     if words::is_word(s, i, e, b"CDATA") {
         return Ok(Declared {
-            value: 0,
+            value: DeclaredValue::Cdata,
             tokens: m,
             at: e,
         });
     }
     if words::is_word(s, i, e, b"NUMBER") {
         return Ok(Declared {
-            value: 1,
+            value: DeclaredValue::Number,
             tokens: m,
             at: e,
         });
     }
     if words::is_word(s, i, e, b"NAME") {
         return Ok(Declared {
-            value: 2,
+            value: DeclaredValue::Name,
             tokens: m,
             at: e,
         });
@@ -120,7 +121,7 @@ fn value_at(
     if b == b'(' {
         let g = name_tokens::group_at(long, s, i, seen, m)?;
         return Ok(Declared {
-            value: i,
+            value: DeclaredValue::Group(i),
             tokens: g.count,
             at: g.at,
         });
@@ -152,14 +153,15 @@ pub fn definition_at(
     let j = gaps::gap_end(s, e)?;
     let v = value_at(long, s, j, seen, m)?;
     let l = gaps::gap_end(s, v.at)?;
-    let d = attribute_defaults::default_at(long, s, v.value, v.at, l)?;
+    let value = v.value.number();
+    let d = attribute_defaults::default_at(long, s, value, v.at, l)?;
     Ok(Defined {
         row: Row {
             name: i,
             size: e - i,
-            value: v.value,
-            default: d.value,
-            width: d.width,
+            value: value,
+            default: d.value.number(),
+            width: d.value.width(),
         },
         tokens: v.tokens,
         at: d.at,

@@ -23,7 +23,7 @@ pub returns-then-fits : goal.returns-then-fits
 returns-then-fits c = let a = c.args in
     let h = sym c.in_ok-e.ensures in
     let r = got_so (literal_holds a.s.now a.i) h in
-    (λ y d. literal_fits a.long a.s.now y a.i _ h r.0 r.1 _ c.value-v.ensures (c.fits.ensures y d) c.requires.0 c.if-fits.true, omega (arith, r))
+    (λ y d. literal_fits a.long a.s.now y a.i _ h r.0 r.1 _ c.value-v.ensures (c.fits.ensures y d) c.if-fits.true, omega (arith, r, c.requires.0))
 
 pub returns : goal.returns
 returns c = let a = c.args in
