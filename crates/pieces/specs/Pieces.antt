@@ -77,10 +77,10 @@ module _ (c : Settings) (s : List ℕ) (es : List Element) (d : List ℕ) (at : 
   -- A start tag, whose attributes are held against the list of the element: r is what the code says of them.
   module _ (e : piece c.name_length d at ≡ got (start_tag t)) (some : 1 ≤ x) where
     -- Its list is in the table, and the names in it differ, as in every type.
-    pub list_held : (elements index lists given : List ℕ) (n : ℕ) → Indexed s es elements index → Lists c.name_length s es lists → KeptAs given n t.written → {marks : List ℕ} (r : Result (Unit {0}) Fault)
+    pub list_held : (elements index lists given : List ℕ) (n : ℕ) → Indexed s es elements index → Lists c.name_length s es lists → KeptAs given n t.written → (marks : List ℕ) (r : Result (Unit {0}) Fault)
         → ((xs : List Attribute) (ws : List Written) → ListAt c.name_length s lists (LIST * (x - 1)) xs → NamesDiffer s xs → KeptAs given n ws → Attributed s xs d ws marks r (attributed c.name_length s xs d at ws))
         → Attributed s (element_at es (x - 1)).attributes d t.written marks r (attributed c.name_length s (element_at es (x - 1)).attributes d at t.written)
-    list_held elements index lists given n i l k r said =
+    list_held elements index lists given n i l k marks r said =
         let declared : x - 1 < length es = omega (arith, q, number_of_range s es d t.name t.size) in
         said (element_at es (x - 1)).attributes t.written (l (x - 1) declared) (lists_differ i.settings.name_length s es i.accepted.elements (x - 1) declared) k
 
@@ -90,8 +90,8 @@ module _ (c : Settings) (s : List ℕ) (es : List Element) (d : List ℕ) (at : 
     pub finds_start : attributed c.name_length s (element_at es (x - 1)).attributes d at t.written ≡ got tt → ToSettle c s es d line o at x t.after
     finds_start a = starts some (record { name = t.name; size = t.size; written = t.written; there = under_start c s es d at line o e (sym q) some a; number = sym q })
 
-    pub marks_start : {marks : List ℕ} → Marked s (element_at es (x - 1)).attributes d t.written marks → (u : Tag) → piece c.name_length d at ≡ got (start_tag u) → Marked s (element_at es (x - 1)).attributes d u.written marks
-    marks_start {marks} a u p = let same : t ≡ u = cc in subst (λ (v : Tag). Marked s (element_at es (x - 1)).attributes d v.written marks) same a
+    pub marks_start : (marks : List ℕ) → Marked s (element_at es (x - 1)).attributes d t.written marks → (u : Tag) → piece c.name_length d at ≡ got (start_tag u) → Marked s (element_at es (x - 1)).attributes d u.written marks
+    marks_start marks a u p = let same : t ≡ u = cc in subst (λ (v : Tag). Marked s (element_at es (x - 1)).attributes d v.written marks) same a
 
 -- Where no element has a list and none is given there is nothing to hold.
 nothing_given : (given : List ℕ) (ws : List Written) → KeptAs given 0 ws → ws ≡ []

@@ -60,8 +60,8 @@ pub enum Found {
 // The element that the tag at `at` names.
 fn tagged(t: Type, d: &[u8], g: Tag, at: usize) -> Reading<ElementNo>
     requires { (1 ≤ g.size) × (g.size ≤ most_name_length) × (g.name + g.size ≤ length d.now) }
-    ensures numbered { (es : List Element) → Indexed t.file.now es t.elements.now t.index.now →
-        Numbered at result (number_of t.file.now es d.now g.name g.size) }
+    ensures numbered { (es : List Element) → Indexed t.entry.file.now es t.entry.elements.now t.entry.index.now →
+        Numbered at result (number_of t.entry.file.now es d.now g.name g.size) }
     ensures ranged { Ranged result }
 {
     let x = element_index::find(t.file, t.elements, t.index, d, g.name, g.size).element;
@@ -83,8 +83,8 @@ fn held(
     marks: &mut [u16; MARKS],
 ) -> Reading<()>
     requires { (1 ≤ x.0) × (x.0 ≤ element_limit) × (n ≤ ATTCNT + 1) × GivenIn (length d.now) given.now n × (length t.file.now ≤ type_limit) × (length d.now ≤ document_limit) }
-    ensures { (xs : List Attribute) (ws : List document.Written) → ListAt t.long t.file.now t.lists.now (LIST * (x.0 - 1)) xs → NamesDiffer t.file.now xs → KeptAs given.now n ws →
-        Attributed t.file.now xs d.now ws marks.new result (attributed t.long t.file.now xs d.now at ws) }
+    ensures { (xs : List Attribute) (ws : List document.Written) → ListAt t.entry.long t.entry.file.now t.entry.lists.now (LIST * (x.0 - 1)) xs → NamesDiffer t.entry.file.now xs → KeptAs given.now n ws →
+        Attributed t.entry.file.now xs d.now ws marks.new result (attributed t.entry.long t.entry.file.now xs d.now at ws) }
 {
     if n == 0 && t.lists.is_empty() {
         return Ok(());
@@ -109,14 +109,15 @@ pub fn found_at(
 ) -> Reading<Found>
     requires { Classes classes.now × (t.long ≤ most_name_length) × (level ≤ TAGLVL) × (e.0 ≤ element_limit) × (u.0 ≤ GRPGTCNT) × (at < length d.now) × (length d.now ≤ document_limit) × (length t.file.now ≤ type_limit) × (line.since ≤ at) }
     ensures onward { Onward (length d.now) at result }
-    ensures finds { (es : List Element) → Indexed t.file.now es t.elements.now t.index.now →
-        Tables t.file.now es t.tables.rows.now t.tables.places.now t.tables.facts.now t.tables.members.now →
-        Lists t.long t.file.now es t.lists.now →
-        (o : rules.Open) → Entered es t.tables.members.now begun.now level e.0 u.0 o → (line.since ≡ 0 → is_fresh o ≡ true) →
-        Finds (settings t.long t.edition) t.file.now es d.now (line_of line.since line.mark) o at result ×
-        MarksAt (settings t.long t.edition) t.file.now es d.now at result marks.new }
+    ensures finds { (es : List Element) → Indexed t.entry.file.now es t.entry.elements.now t.entry.index.now →
+        Tables t.entry.file.now es t.entry.tables.rows.now t.entry.tables.places.now t.entry.tables.facts.now t.entry.tables.members.now →
+        Lists t.entry.long t.entry.file.now es t.entry.lists.now →
+        (o : rules.Open) → Entered es t.entry.tables.members.now begun.now level e.0 u.0 o → (line.since ≡ 0 → is_fresh o ≡ true) →
+        Finds (settings t.entry.long t.entry.edition) t.entry.file.now es d.now (line_of line.since line.mark) o at result ×
+        MarksAt (settings t.entry.long t.entry.edition) t.entry.file.now es d.now at result marks.new }
 {
-    match document_text::piece_at(t.long, classes, d, at, given)? {
+    let piece = document_text::piece_at(t.long, classes, d, at, given)?;
+    match piece {
         Piece::StartTag(g) => {
             let x = tagged(t, d, g, at)?;
             held(t, d, x, given, g.given, at, marks)?;
