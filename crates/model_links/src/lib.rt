@@ -11,6 +11,7 @@ ghost use Rattle.model_links.specs.Links.{link_cell, link_row, link_from, link, 
 use layout::{MODEL, MODEL_ROW, POSITIONS};
 
 // The place p may come after u if it can begin the group.
+#[tactic(auto, unfolding(crate::specs::Links::link_cell))]
 fn link_cell(table: &mut [u8; MODEL], u: usize, p: usize)
     requires u_bound { u < POSITIONS }
     requires p_bound { p < POSITIONS }
@@ -33,6 +34,7 @@ fn link_row(table: &mut [u8; MODEL], u: usize, c: usize, d: usize)
 }
 
 // If u can end its group, each place of [c, d) that can begin its own may come after it.
+#[tactic(auto, unfolding(crate::specs::Links::link_from))]
 fn link_from(table: &mut [u8; MODEL], u: usize, c: usize, d: usize)
     requires u_bound { u < POSITIONS }
     requires d_bound { d ≤ POSITIONS }
@@ -55,6 +57,7 @@ pub fn link(table: &mut [u8; MODEL], a: usize, b: usize, c: usize, d: usize)
 }
 
 // The place u can no longer end its group: what is required comes after it.
+#[tactic(auto, unfolding(crate::specs::Links::settle_row))]
 fn settle_row(table: &mut [u8; MODEL], u: usize, required: u8)
     requires { u < POSITIONS }
     ensures { table.new ≡ settle_row required table.old u }
