@@ -1,5 +1,6 @@
 -- Laws of what is decided on a type file's attributes, and of the lent buffer after it.
-use Rattle.std.specs.Prelude.{ℕ, ◌+◌, ◌*◌, ◌≤◌, ◌<◌, ◌≡◌, refl, true, false, List, length, replicate, Result, Ok, Err, is_ok}
+use Rattle.std.specs.Prelude.{ℕ, ◌+◌, ◌*◌, ◌≤◌, ◌<◌, ◌≡◌, refl, true, false, List, length, replicate, Result, Ok, Err}
+use Rattle.std.specs.Result.{is_err}
 use Rattle.std.proofs.Common.{sym, ap, ◌∙◌, true≢false, inl, inr, arith}
 use Rattle.rules.specs.Settings.{Settings}
 use Rattle.rules.specs.Lent.{Lent, numbers, bytes, standing, room, filled_with, zeroed}
@@ -60,16 +61,16 @@ holds_lent bytes {b = b} {xs = xs} w h = w.bytes_hold (standing_fits bytes xs b 
 
 -- What the lent buffer holds after it, filled or zeroed.
 module _ (l : Lent) (c : Settings) (s n b n' b' : List ℕ) (v : Result ℕ TypeFault) (d : Decides c s (room l (lent_of l n b)) n b n' b' v) where
-  pub listed_accepts : is_ok v ≡ true → Lists l c s (lent_of l n b) (answer_of v) (lent_of l n' b')
+  pub listed_accepts : is_err v ≡ false → Lists l c s (lent_of l n b) (answer_of v) (lent_of l n' b')
   listed_accepts e = by_verdict v refl d
     where
       by_verdict : (u : Result ℕ TypeFault) → v ≡ u → Decides c s (room l (lent_of l n b)) n b n' b' u → Lists l c s (lent_of l n b) (answer_of v) (lent_of l n' b')
       by_verdict (Ok t) q (es, a, (fits, count, w)) =
           let size = lists_length 1 es in
           rw q (accepts es a fits (ap acceptance count) (holds_lent l w (omega arith)))
-      by_verdict (Err x) q h = absurd (true≢false (sym (rw q at e)))
+      by_verdict (Err x) q h = absurd (true≢false (rw q at e))
 
-  pub listed_refuses : (after : List ℕ) → is_ok v ≡ false → after ≡ zeroed (lent_of l n b) → Lists l c s (lent_of l n b) (answer_of v) after
+  pub listed_refuses : (after : List ℕ) → is_err v ≡ true → after ≡ zeroed (lent_of l n b) → Lists l c s (lent_of l n b) (answer_of v) after
   listed_refuses after e q = by_verdict v refl d
     where
       by_list : {a : Answer} → RefusesList c s (room l (lent_of l n b)) a → Lists l c s (lent_of l n b) a after
@@ -77,7 +78,7 @@ module _ (l : Lent) (c : Settings) (s n b n' b' : List ℕ) (v : Result ℕ Type
       by_list (inr x) = let (es, a, (h, e)) = x in no_room es a h e q
 
       by_verdict : (u : Result ℕ TypeFault) → v ≡ u → Decides c s (room l (lent_of l n b)) n b n' b' u → Lists l c s (lent_of l n b) (answer_of v) after
-      by_verdict (Ok t) z h = absurd (true≢false (rw z at e))
+      by_verdict (Ok t) z h = absurd (true≢false (sym (rw z at e)))
       by_verdict (Err x) z h = rw z (by_list h)
 
 -- A buffer of the same length is zeroed alike.

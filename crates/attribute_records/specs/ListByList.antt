@@ -93,7 +93,7 @@ module _ (lists : List ℕ) (e : ℕ) (numbers bytes : List ℕ) (n : ℕ) where
               rw more (puts_then so_far (omega arith) p);
         }
 
-    pub list_end : {count : ℕ} → ((long : ℕ) (s : List ℕ) (xs : List Attribute) → 1 ≤ e → ListAt long s lists (LIST * (e - 1)) xs → count ≡ length xs) → 1 ≤ e → a ≤ count → count ≤ a → PutsList lists e numbers bytes n now now_bytes (n + a)
+    pub list_end : {count : ℕ} → ((long : ℕ) (s : List ℕ) (xs : List Attribute) → 1 ≤ e → ListAt long s lists (LIST * (e - 1)) xs → count ≡ length xs) → 1 ≤ e → a ≤ count → count ≤ a → PutsList lists e numbers bytes n now now_bytes (n + count)
     list_end {count} counted h i j long s xs l =
         let size = counted long s xs h l in
         (omega arith, rw (take_all a xs (omega arith)) at (w.puts long s xs l (omega arith)))

@@ -1,5 +1,6 @@
 -- Laws of the reader's answer: the type's verdict, the document's events, and the room for them.
-use Rattle.std.specs.Prelude.{ℕ, ◌*◌, ◌/◌, ◌≤◌, ◌<◌, ◌≡◌, refl, Bool, true, false, List, [], ◌∷◌, length, ltb, Result, Ok, Err, is_ok, IsErrAnd, MatchResult}
+use Rattle.std.specs.Prelude.{ℕ, ◌*◌, ◌/◌, ◌≤◌, ◌<◌, ◌≡◌, refl, Bool, true, false, List, [], ◌∷◌, length, ltb, Result, Ok, Err, IsErrAnd, MatchResult}
+use Rattle.std.specs.Result.{is_err}
 use Rattle.std.proofs.Common.{sym, ap, subst, ◌∙◌, true≢false, arith, ltb-true, ltb-false, lt-ltb, le-ltb}
 use Rattle.rules.specs.Settings.{Settings}
 use Rattle.rules.specs.Lent.{Lent, bytes_of, standing, room, zeroed}
@@ -78,12 +79,12 @@ module _ (c : Settings) (s d numbers numbers_after bytes bytes_after : List ℕ)
 
 -- The room
 
-pub accepted_is : (a : Result ℕ Refused) → is_ok a ≡ true → (n : ℕ) × (a ≡ Ok n)
+pub accepted_is : (a : Result ℕ Refused) → is_err a ≡ false → (n : ℕ) × (a ≡ Ok n)
 accepted_is (Ok n) e = (n, refl)
-accepted_is (Err x) e = absurd (true≢false (sym e))
+accepted_is (Err x) e = absurd (true≢false e)
 
-pub refusal_is : (a : Result ℕ Refused) → is_ok a ≡ false → (x : Refused) × (a ≡ Err x)
-refusal_is (Ok n) e = absurd (true≢false e)
+pub refusal_is : (a : Result ℕ Refused) → is_err a ≡ true → (x : Refused) × (a ≡ Err x)
+refusal_is (Ok n) e = absurd (true≢false (sym e))
 refusal_is (Err x) e = (x, refl)
 
 -- What the tests on the way to the fitted answer say.
@@ -136,7 +137,7 @@ module _ (l : Lent) (c : Settings) (s d numbers numbers_after bytes bytes_after 
   after = lent_of l numbers_after bytes_after
 
   module _ (same : length after ≡ length before) (e : a ≡ fitted_to (room l after / event_width) v) where
-    pub read_accepted : is_ok a ≡ true → ReadAs l c s d before (answer_of a) after
+    pub read_accepted : is_err a ≡ false → ReadAs l c s d before (answer_of a) after
     read_accepted g =
         let (n, q) = accepted_is a g in
         let (x, fits) = fitted_accepted c s d numbers numbers_after bytes bytes_after (room l after / event_width) v a h e n q in
@@ -144,7 +145,7 @@ module _ (l : Lent) (c : Settings) (s d numbers numbers_after bytes bytes_after 
         let held = standing_fits l (event_numbers x.events) before (omega (arith, event_numbers_length x.events)) in
         ReadAs.accepts x.elements x.events x.reads enough (ap answer_of q ∙ ap acceptance x.counted) (x.written l held)
 
-    pub read_refused : (cleared : List ℕ) → is_ok a ≡ false → cleared ≡ zeroed after → ReadAs l c s d before (answer_of a) cleared
+    pub read_refused : (cleared : List ℕ) → is_err a ≡ true → cleared ≡ zeroed after → ReadAs l c s d before (answer_of a) cleared
     read_refused cleared g z =
         let (x, q) = refusal_is a g in
         ReadAs.refuses

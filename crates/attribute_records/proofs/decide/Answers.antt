@@ -21,7 +21,7 @@ pub returns-in_err-listed : goal.returns-in_err-listed
 returns-in_err-listed c =
     let a = c.args in
     let d = c.decide in
-    decided_full (settings_of a.c) a.s.now d.new.elements d.new.heads a.room _ _ _ _ _ c.in_ok-n.ensures _ _ c.in_err-listed.ensures (raised _ c.from_residual-2.ensures.1)
+    decided_full (settings_of a.c) a.s.now d.new.elements d.new.heads a.room _ _ _ _ _ c.in_ok-n.ensures _ _ c.in_err-listed.ensures (raised _ c.from_residual-in_err-listed.ensures.1)
 
 pub returns : goal.returns
 returns c =

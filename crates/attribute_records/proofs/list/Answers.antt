@@ -1,4 +1,5 @@
 -- `list` meets its contract: what is listed stands in the buffer, and a refusal clears it.
+use mathlib.Core.Path.{sym, ◌∙◌}
 use Rattle.rules.specs.Lent.{numbers}
 use Rattle.inputs.specs.Checks.{settings_of}
 use Rattle.attribute_records.specs.Decided.{listed_accepts, listed_refuses, zeroed_kept}
@@ -8,10 +9,10 @@ pub returns-then-is_err : goal.returns-then-is_err
 returns-then-is_err c =
     let a = c.args in
     let d = c.decide-v in
-    listed_refuses numbers (settings_of a.c) a.s.now _ _ _ _ d.result d.ensures _ ? (zeroed_kept a.buffer.now d.new.numbers d.auto.numbers (c.fill.ensures.after (λ y e. e)))
+    listed_refuses numbers (settings_of a.c) a.s.now _ _ _ _ d.result d.ensures _ (sym c.is_err.ensures.value ∙ c.if-is_err.true) (zeroed_kept a.buffer.now d.new.numbers d.auto.numbers (c.fill.ensures.after (λ y e. e)))
 
 pub returns-else-is_err : goal.returns-else-is_err
 returns-else-is_err c =
     let a = c.args in
     let d = c.decide-v in
-    listed_accepts numbers (settings_of a.c) a.s.now _ _ _ _ d.result d.ensures ?
+    listed_accepts numbers (settings_of a.c) a.s.now _ _ _ _ d.result d.ensures (sym c.is_err.ensures.value ∙ c.if-is_err.false)

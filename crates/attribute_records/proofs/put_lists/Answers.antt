@@ -6,7 +6,7 @@ pub loop-k-init : goal.loop-k-init
 loop-k-init c = (lists_first _ _ _, omega arith)
 
 pub loop-k-preserved : goal.loop-k-preserved
-loop-k-preserved c = (lists_turn _ _ _ c.loop-k.invariant.0 c.put_list.auto.numbers c.put_list.auto.bytes c.put_list.ensures.0, omega arith)
+loop-k-preserved c = (lists_turn _ _ _ c.loop-k.invariant.0 c.put_list-m.auto.numbers c.put_list-m.auto.bytes c.put_list-m.ensures.0, omega arith)
 
 pub shape_of-numbers : goal.shape_of-numbers
 shape_of-numbers c = c.loop-k.invariant.0.numbers_kept
