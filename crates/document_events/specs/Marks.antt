@@ -49,6 +49,6 @@ marks_going {s = s} g es i t l =
     at_every_moment s es t.accepted came.stands came.reaches
 
 -- After each token that is settled and not refused.
-pub marks_turned : {c e : Settings} {s : List ℕ} {es : List Element} → Accepts e s es → {d M begun : List ℕ} {at after mark from : ℕ} {events : List Event} {r : Outcome}
+pub marks_turned : {c e : Settings} {s : List ℕ} {es : List Element} → Accepts e s es → {d M begun : List ℕ} (at : ℕ) {after mark from : ℕ} {events : List Event} (r : Outcome)
     → Turned c s es d M begun at after mark from events (Ok r) → AtMoment s es c d after r.open
-marks_turned {s = s} {es} a (y, came, reach, last) = at_every_moment s es a came.0 reach
+marks_turned {s = s} {es} a at r (y, came, reach, last) = at_every_moment s es a came.0 reach

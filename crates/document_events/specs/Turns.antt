@@ -88,8 +88,8 @@ latest_data c d at after h ev (suc k) opens taken e = absurd (omega arith)
 module _ (c : Settings) (s : List ℕ) (es : List Element) (d M : List ℕ) (at since mark : ℕ) (z : State) (h : at < length d) (reach : Reaches c s es d at (line_of since mark) z) (x after : ℕ) where
   -- An end tag.
   module _ (it : Finds c s es d (line_of since mark) z.current at (Ok (found.End (element_no x) after))) where
-    turned_end : {begun : List ℕ} {r : Outcome} {events : List Event} (from : ℕ) → Got (StandsWith es M begun r.open events) (end_element s es (decided s es) x at after z) → Turned c s es d M begun at after mark from events (Ok r)
-    turned_end from (y, e, came) =
+    turned_end : {begun : List ℕ} (r : Outcome) {events : List Event} (from : ℕ) → Got (StandsWith es M begun r.open events) (end_element s es (decided s es) x at after z) → Turned c s es d M begun at after mark from events (Ok r)
+    turned_end r from (y, e, came) =
         let (n, i) = it in
         (y, came, reaches_end_tag reach h n.there x n.number i e, latest_end_tag c s es d at (line_of since mark) z h x from n.there e)
 
@@ -101,9 +101,9 @@ module _ (c : Settings) (s : List ℕ) (es : List Element) (d M : List ℕ) (at 
     all_run : take_run s es (decided s es) at (run_end d (at + 1) - at) z ≡ takes s es x at after z
     all_run = ap (λ (k : ℕ). take_run s es (decided s es) at (k - at) z) (sym f.ends) ∙ sym (takes_run s es at after z x nothing)
 
-    turned_run : at < after → {begun : List ℕ} {r : Outcome} (ev : List Event) (opens : Bool) (taken : ℕ) → Got (StandsWith es M begun r.open (ev ++ written_of x opens taken at after)) (takes s es x at after z)
+    turned_run : at < after → {begun : List ℕ} (r : Outcome) (ev : List Event) (opens : Bool) (taken : ℕ) → Got (StandsWith es M begun r.open (ev ++ written_of x opens taken at after)) (takes s es x at after z)
         → Turned c s es d M begun at after mark at (ev ++ written_of x opens taken at after) (Ok r)
-    turned_run on ev opens taken (y, e, came) =
+    turned_run on r ev opens taken (y, e, came) =
         let (v, again, there) = reaches_run reach h f.run f.fits accepted (all_run ∙ e) in
         let begins = (passes_begun s es (decided s es) (accepted_decided s es accepted) d there.passes).current in
         let w = state v y.around y.events in
@@ -111,12 +111,12 @@ module _ (c : Settings) (s : List ℕ) (es : List Element) (d M : List ℕ) (at 
         (w, (stands_again came.0 again begins, came.1), there_on, subst (Latest c d after at) (sym came.1) (latest_data c d at after on ev x opens taken nothing))
 
   -- A start tag or a run of data, for 0.
-  turned_token : {given : Settings} → Accepts given s es → at < after → ToSettle c s es d (line_of since mark) z.current at x after → {begun : List ℕ} {r : Outcome} (ev : List Event) (opens : Bool) (taken : ℕ)
+  turned_token : {given : Settings} → Accepts given s es → at < after → ToSettle c s es d (line_of since mark) z.current at x after → {begun : List ℕ} (r : Outcome) (ev : List Event) (opens : Bool) (taken : ℕ)
       → Got (StandsWith es M begun r.open (ev ++ written_of x opens taken at after)) (takes s es x at after z) → Turned c s es d M begun at after mark at (ev ++ written_of x opens taken at after) (Ok r)
-  turned_token accepted on (starts i n) ev opens taken (y, e, came) =
+  turned_token accepted on (starts i n) r ev opens taken (y, e, came) =
       let is = sym (takes_start s es at after z x i) ∙ e in
       (y, came, reaches_start_tag reach h n.there x n.number i is, latest_start_tag c s es d at (line_of since mark) z h x at n.there is)
-  turned_token accepted on (runs nothing f) ev opens taken b = turned_run accepted nothing f on ev opens taken b
+  turned_token accepted on (runs nothing f) r ev opens taken b = turned_run accepted nothing f on r ev opens taken b
 
   token_refused : {given : Settings} → Accepts given s es → ToSettle c s es d (line_of since mark) z.current at x after → {k : ℕ} → takes s es x at after z ≡ refused k at → document c s es (decided s es) d ≡ refused k at
   token_refused accepted (starts i n) e = refused_start_tag reach h n.there x n.number i (sym (takes_start s es at after z x i) ∙ e)
@@ -293,7 +293,7 @@ module _ {c : Settings} {s elements index rows places facts M lists d begun numb
             let came = turn.going.any es i u l in
             let z = came.state in
             let it = to_settle es i u l in
-            turned_token c s es d M at since mark z turn.inside came.reaches x.0 after u.accepted (token_range q).0 it ((z.events ++ ends) ++ t.starts) t.opens t.taken (t.settles s es u z came.stands (declared es i u l) after (tag_shown es z.current it))
+            turned_token c s es d M at since mark z turn.inside came.reaches x.0 after u.accepted (token_range q).0 it r ((z.events ++ ends) ++ t.starts) t.opens t.taken (t.settles s es u z came.stands (declared es i u l) after (tag_shown es z.current it))
 
         -- The tag's attributes are marked.
         tag_gives : (es : List Element) → Indexed s es elements index → Tables s es rows places facts M → Lists c.name_length s es lists → (v : rules.Open) → ToSettle c s es d (line_of since mark) v at x.0 after → 1 ≤ x.0 → Gives c.name_length s es d x.0 at marks
@@ -362,7 +362,7 @@ module _ {c : Settings} {s elements index rows places facts M lists d begun numb
         ended : (es : List Element) (i : Indexed s es elements index) (u : Tables s es rows places facts M) (l : Lists c.name_length s es lists) → Turned c s es d M begun at after mark from ((turn.going.any es i u l).state.events ++ t.brings.events) (Ok r)
         ended es i u l =
             let came = turn.going.any es i u l in
-            turned_end c s es d M at since mark came.state turn.inside came.reaches x.0 after (rw q at (finds es i u l)) from (closes es i u l)
+            turned_end c s es d M at since mark came.state turn.inside came.reaches x.0 after (rw q at (finds es i u l)) r from (closes es i u l)
 
         -- What was due stands, and its ends behind.
         end_due : (es : List Element) (i : Indexed s es elements index) (u : Tables s es rows places facts M) (l : Lists c.name_length s es lists)
