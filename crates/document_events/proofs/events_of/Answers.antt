@@ -15,6 +15,7 @@ use Rattle.open_elements.specs.Stands.{Stands}
 use Rattle.open_elements.specs.Becomes.{passed_on}
 use Rattle.ways.specs.Ends.{over_says}
 use Rattle.inferring.specs.Starts.{along_start, along_next}
+use Rattle.placing.specs.Noting.{Places}
 use Rattle.placing.specs.Places.{places_opened}
 use Rattle.settling.specs.Tokens.{refuses_over, refuses_many, refuses_placed, settles_placed}
 use Rattle.record_ends.specs.Held.{is_held, shown_end, Frees}
@@ -129,7 +130,8 @@ loop-at-preserved-in-Token c =
     let g = goal.at.loop-at-preserved-in-Token c in
     let t = at_turn g.After-found_at in
     let few = (token_asked t c.requires.2 (is_token g.After-ends-f)).1 in
-    let opened =
+    let u = c.args.t.tables in
+    let opened : Places u.rows.now u.places.now u.facts.now u.members.now c.loop-k.begun c.ends-f.result.found c.in-Token.x.0 c.loop-at.at c.shown_end-shown.result c.if-t-ne0.m c.loop-k.o c.if-t-ne0.numbers c.if-t-ne0.bytes c.in-Ok.r c.if-opens.o c.placed.new.begun c.placed.new.numbers c.placed.new.bytes =
     elim c.if-opens.branch [
       | then-opens w ↦ places_opened c.in-Ok.ensures few true (rw w.if-opens.true at c.opens.ensures) (w.o-is ∙ w.start-o.ensures)
       | else-opens w ↦ places_opened c.in-Ok.ensures few false (rw w.if-opens.false at c.opens.ensures) w.o-is
