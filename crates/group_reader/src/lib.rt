@@ -1,4 +1,7 @@
 // The recursive reader of model groups: bytes in, the model's places and its table out.
+//
+// Kept: `let .. else` where `?` would do, since paper 01 names that form for the place where a token is read: "each sub-reader's enum is
+// taken apart by let .. else, passing refusals on with number and position".
 #![tactic(auto)]
 
 ghost use Rattle.std.specs.Prelude.{◌≡◌, ◌||◌, leb, false, List, ℕ, ◌+◌, ◌*◌, ◌≤◌, ◌<◌, length};
@@ -72,7 +75,10 @@ fn token_at(
             tokens: had.tokens + 1,
             ..had
         };
-        let m = group_at(long, s, at, levels, with_it, names, table)?;
+        let r = group_at(long, s, at, levels, with_it, names, table);
+        let Ok(m) = r else {
+            return r;
+        };
         return Ok(connectors::with_occurrence(s, table, had.places + 1, m));
     }
     if b == b'[' || b == b'%' {
@@ -122,7 +128,10 @@ fn next_at(
     }
     let j = text::separators_end(s, i + 1);
     let full = is_full(k, had.tokens);
-    let u = token_at(long, s, j, levels, full, had, names, table)?;
+    let r = token_at(long, s, j, levels, full, had, names, table);
+    let Ok(u) = r else {
+        return Err(r.unwrap_err());
+    };
     Ok(Next::Joined(b, connectors::joined_by(table, b, i, lo, m, u)))
 }
 
@@ -148,11 +157,19 @@ pub fn group_at(
     }
     let i = text::separators_end(s, at + 1);
     let full = GRPGTCNT <= had.tokens;
-    let mut m = token_at(long, s, i, levels - 1, full, had, names, table)?;
+    let r = token_at(long, s, i, levels - 1, full, had, names, table);
+    let Ok(first) = r else {
+        return r;
+    };
+    let mut m = first;
     let mut k: usize = 1;
     let mut c: u8 = 0;
     loop {
-        match next_at(long, s, levels - 1, had.places + 1, k, c, m, names, table)? {
+        let n = next_at(long, s, levels - 1, had.places + 1, k, c, m, names, table);
+        let Ok(next) = n else {
+            return Err(n.unwrap_err());
+        };
+        match next {
             Next::Closed(u) => {
                 return Ok(u);
             }

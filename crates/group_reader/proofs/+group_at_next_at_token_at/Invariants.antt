@@ -16,8 +16,8 @@ decreases-next_at l = 3 * l.levels + 2
 abbrev pub decreases-token_at : goal.decreases-token_at
 decreases-token_at l = 3 * l.levels + 1
 
-abbrev pub invariant-group_at-loop-u : goal.invariant-group_at-loop-u
-invariant-group_at-loop-u l = So l.long (group l.long (l.levels - 1) l.s) l.s (l.had.places + 1) l.initial.names l.initial.table l.initial.m l.names l.table l.m l.k l.c
+abbrev pub invariant-group_at-loop-next : goal.invariant-group_at-loop-next
+invariant-group_at-loop-next l = So l.long (group l.long (l.levels - 1) l.s) l.s (l.had.places + 1) l.initial.names l.initial.table l.initial.m l.names l.table l.m l.k l.c
 
-abbrev pub decreases-group_at-loop-u : goal.decreases-group_at-loop-u
-decreases-group_at-loop-u l = (GRPCNT + 1) - l.k
+abbrev pub decreases-group_at-loop-next : goal.decreases-group_at-loop-next
+decreases-group_at-loop-next l = (GRPCNT + 1) - l.k
