@@ -103,7 +103,7 @@ fn is_missing(lists: &[u16], e: ElementNo, n: usize, marks: &[u16; MARKS]) -> bo
         (at : ℕ) → none_missing s xs d at ws ≡ elim result [ true ↦ refused 21 at | false ↦ got tt ] }
 {
     for k in 0..n {
-        if marks[2 * k] == 0 && list_table::attribute(lists, e, k).default == 0 {
+        if marks[2 * k] == 0 && list_table::attribute(lists, e, k).is_required() {
             return true;
         }
     }

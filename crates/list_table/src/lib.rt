@@ -7,7 +7,7 @@
 // Whatever the table holds, each function ends and stays within it.
 #![tactic(auto)]
 
-ghost use Rattle.std.specs.Prelude.{◌≡◌, List, [], ◌∷◌, ◌++◌, ℕ, ◌+◌, ◌*◌, ◌-◌, ◌≤◌, ◌<◌, length, get_or, IfSome};
+ghost use Rattle.std.specs.Prelude.{◌≡◌, List, [], ◌∷◌, ◌++◌, ℕ, ◌+◌, ◌*◌, ◌-◌, ◌≤◌, ◌<◌, length, get_or, eqb, IfSome};
 ghost use Rattle.rules.specs.Bytes.{ATTCNT, element_limit};
 ghost use Rattle.rules.specs.Attributes.{Attribute, attribute_of, needs_tag};
 ghost use Rattle.layout.specs.Sizes.{ATTRIBUTE, LIST, LISTS};
@@ -23,6 +23,15 @@ pub struct Row {
     pub value: usize,
     pub default: usize,
     pub width: usize,
+}
+
+impl Row {
+    // Whether its attribute is required.
+    pub fn is_required(self) -> bool
+        ensures { result ≡ eqb self.default 0 }
+    {
+        self.default == 0
+    }
 }
 
 // A number of the table; 0 past its end.
@@ -105,7 +114,7 @@ pub fn needs_tag(lists: &[u16], e: ElementNo) -> bool
     ensures { (long : ℕ) (s : List ℕ) (xs : List Attribute) → ListAt long s lists.now (LIST * (e.0 - 1)) xs → result ≡ needs_tag xs }
 {
     for k in 0..count(lists, e) {
-        if attribute(lists, e, k).default == 0 {
+        if attribute(lists, e, k).is_required() {
             return true;
         }
     }
