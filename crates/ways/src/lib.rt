@@ -39,14 +39,15 @@ fn chain(t: TypeTables, e: ElementNo, q: Place, x: ElementNo) -> usize
     ensures upper_bound { result ≤ element_limit }
 {
     let mut c = type_tables::startable(t, e, q);
-    let mut n = 1;
-    while n <= ELEMENTS && c.0 != 0 {
+    for n in 1..ELEMENTS + 1 {
+        if c.0 == 0 {
+            return 0;
+        }
         let p = type_tables::fitting_first(t, c, x);
         if p.0 != 0 {
             return n;
         }
         c = type_tables::inferable(t, c);
-        n += 1;
     }
     0
 }
