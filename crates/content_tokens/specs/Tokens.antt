@@ -22,9 +22,6 @@ use Rattle.model_names.specs.Shared.{places_of_length}
 use Rattle.connectors.specs.declared.Model.{Model}
 use Rattle.connectors.specs.Kept.{begun, Ready, Tabled, Keeps}
 use Rattle.connectors.specs.Grown.{joins_one, ready_more, tabled_put, tabled_on}
-use Rattle.text.specs.Refusal.{fault_at}
-use Rattle.text.specs.declared.Fault.{Fault}
-use Rattle.text.specs.declared.Refusal.TheVariants.{Malformed}
 use Rattle.content_tokens.specs.Meets.{wrong_data}
 
 -- A new place is put.
@@ -136,12 +133,3 @@ module _ (s : List ℕ) (at : ℕ) (full : Bool) (ps : List Place) (n : ℕ) whe
     pub data_none : data_token s at full ps n ≡ refused 4 (at + 1)
     unfolding data_token
     data_none = rw (L, data_token)
-
--- Where a wrong word after `#` stands.
-
-module _ (s : List ℕ) (at e : ℕ) (w : Bool) (W : w ≡ is_cut s (at + 1) e PCDATA) {r : Fault} where
-  pub wrong_cut : w ≡ true → r ≡ fault_at Malformed (length s) → r ≡ fault_at Malformed (wrong_data s at e)
-  wrong_cut q f = f ∙ ap (fault_at Malformed) (rw (← W, q))
-
-  pub wrong_whole : w ≡ false → r ≡ fault_at Malformed at → r ≡ fault_at Malformed (wrong_data s at e)
-  wrong_whole q f = f ∙ ap (fault_at Malformed) (rw (← W, q))

@@ -1,7 +1,5 @@
 -- What follows a content token, in the rules' terms.
-use Rattle.std.specs.Prelude.{ℕ, ◌+◌, ◌≤◌, ◌<◌, ◌≡◌, ◌&&◌, Result, Ok, Err, cond, List, eqb, leb}
-use Rattle.std.proofs.Common.{eq-eqb, ne_eqb, le-leb}
-use Rattle.std.proofs.lemmas.Bool.{lt-leb}
+use Rattle.std.specs.Prelude.{ℕ, ◌+◌, ◌≡◌, ◌&&◌, Result, Ok, Err, cond, List, eqb, leb}
 use Rattle.model_code.specs.Codes.{AND_CODE}
 use Rattle.rules.specs.Reading.{Reading, refused, got}
 use Rattle.rules.specs.TypeFile.{Further, closed, joined}
@@ -33,14 +31,3 @@ closed_table k joint n T = cond (eqb joint AND && leb k GRPCNT) (put_code T n (A
 
 abbrev pub closed_code : (k joint n : ℕ) → ℕ
 closed_code k joint n = cond (eqb joint AND && leb k GRPCNT) (code_next n) n
-
--- Another group leaves both as they are, and so does one that is too large; else the number is put.
-module _ (k joint n : ℕ) (T : List ℕ) where
-  pub closed_other : (joint ≡ AND → ⊥) → (T ≡ closed_table k joint n T) × (n ≡ closed_code k joint n)
-  closed_other e = let x = ne_eqb joint AND e in (rw x, rw x)
-
-  pub closed_many : joint ≡ AND → GRPCNT < k → (T ≡ closed_table k joint n T) × (n ≡ closed_code k joint n)
-  closed_many e h = let x = eq-eqb joint AND e in let y = lt-leb k GRPCNT h in (rw (x, y), rw (x, y))
-
-  pub closed_few : joint ≡ AND → k ≤ GRPCNT → (S : List ℕ) (r : ℕ) → (S ≡ put_code T n (AND_CODE + k)) × (r ≡ code_next n) → (S ≡ closed_table k joint n T) × (r ≡ closed_code k joint n)
-  closed_few e h S r p = let x = eq-eqb joint AND e in let y = le-leb k GRPCNT h in (rw (x, y) p.0, rw (x, y) p.1)

@@ -27,13 +27,10 @@ pub enum Next {
 fn closed_code(table: &mut [u8; MODEL], code: u16, k: usize, c: u8) -> u16
     ensures { (table.new ≡ closed_table k c code table.old) × (result ≡ closed_code k c code) }
 {
-    if c != b'&' {
-        return code;
+    if c == b'&' && k <= GRPCNT {
+        return model_code::put(table, code, model_code::AND_CODE + k as u8);
     }
-    if GRPCNT < k {
-        return code;
-    }
-    model_code::put(table, code, model_code::AND_CODE + k as u8)
+    code
 }
 
 // Whether no content token may follow k of a group in a model that has so many.
