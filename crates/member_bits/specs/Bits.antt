@@ -1,5 +1,5 @@
 -- Numbers bit by bit: bits set, those of two numbers taken together, a part, two numbers side by side, how many bits are set, and the lowest of them.
-use Rattle.std.specs.Prelude.{ℕ, zero, suc, ◌+◌, ◌-◌, ◌*◌, ◌/◌, ◌%◌, ◌^◌, ◌≤◌, ◌<◌, min, ◌≡◌, refl, Bool, true, false, ◌&&◌, ◌||◌, not, cond, eqb}
+use Rattle.std.specs.Prelude.{ℕ, zero, suc, ◌+◌, ◌-◌, ◌*◌, ◌/◌, ◌%◌, ◌^◌, ◌≤◌, ◌<◌, ◌≡◌, refl, Bool, true, false, ◌&&◌, ◌||◌, not, cond, eqb}
 use Rattle.std.proofs.Common.{sym, ◌∙◌, ap, pow-suc, mod-lt, arith, eqb-true, shr-shr, pow_mono, shl_exact, w64}
 use Rattle.std.proofs.Math.Nat.{div-eq_of_lt}
 use Rattle.std.proofs.Math.Decide.{dec_lt}
@@ -9,7 +9,7 @@ use Rattle.std.specs.Int.{trailing_zeros}
 use Rattle.std.proofs.lemmas.Nat.Bits.{bit_at-trailing_zeros}
 use Rattle.std.proofs.lemmas.Nat.{shr_le, and_shr, and_mod, or_shr, or_mod, xor_shr, xor_mod}
 use Rattle.std.proofs.Math.Pow.{high, low, field, mod-mod-pow}
-use Rattle.std.specs.Int.Bits.{bit_and, bit_or, bit_xor, and_step, and_self}
+use Rattle.std.specs.Int.Bits.{bit_and, bit_or, bit_xor}
 use Rattle.member_bits.specs.Having.{Lowest}
 
 -- A number is halved bit by bit.

@@ -2,9 +2,8 @@
 use Rattle.std.specs.Int.{bytes_low_first, byte_at, to_le_bytes}
 use Rattle.std.proofs.lemmas.List.{get_or-append_right, get_or-drop, get_or-take}
 use Rattle.std.proofs.Math.ListN.{get_or-append}
-use Rattle.std.specs.Prelude.{ℕ, zero, suc, ◌++◌, take, drop, ◌+◌, ◌-◌, ◌*◌, ◌/◌, ◌%◌, ◌^◌, ◌≤◌, ◌<◌, ◌≡◌, refl, Bool, ◌⊎◌, List, eqb, ltb, length, get_or, set}
+use Rattle.std.specs.Prelude.{ℕ, zero, suc, ◌++◌, take, drop, ◌+◌, ◌-◌, ◌*◌, ◌/◌, ◌%◌, ◌^◌, ◌≤◌, ◌<◌, ◌≡◌, refl, Bool, ◌⊎◌, List, eqb, ltb, length, get_or}
 use Rattle.std.proofs.Common.{sym, pow-suc, pow-add, ◌∙◌, ap, inl, inr, arith, w64, length-append, length-drop, length-take-le, shr-shr, ltb-true, ltb-false}
-use Rattle.std.proofs.Math.Decide.{ℕ_discrete}
 use Rattle.std.proofs.Math.Pow.{field, mod-mod-pow}
 use Rattle.layout.specs.Sizes.{POSITIONS, MEMBER_BITS}
 use Rattle.basic_laws.specs.Truth.{bool_cases}

@@ -1,5 +1,4 @@
 -- `take` meets its contract: the members that have begun are those of the places before, or none; then those around the place are too.
-use Prim.Native.Nat.{◌≤◌}
 use native.Mathlib.Omega.{arith}
 use Rattle.and_groups.specs.Taking.{ready_start, ready_on, takes_free, takes_held, takes_short}
 use Rattle.and_groups.proofs.take.Goals as goal
