@@ -1,6 +1,6 @@
 -- Whether an "&" stands in a text.
-use Rattle.std.specs.Prelude.{ℕ, ◌+◌, ◌<◌, ◌≡◌, Bool, true, false, List}
-use Rattle.std.proofs.Common.{arith}
+use Rattle.std.specs.Prelude.{ℕ, ◌+◌, ◌<◌, ◌≡◌, Bool, true, false, ◌||◌, eqb, List}
+use Rattle.std.proofs.Common.{sym, subst, arith, eq-eqb, ne_eqb}
 use Rattle.std.proofs.Math.Decide.{ℕ_discrete}
 use Rattle.rules.specs.Bytes.{byte_at, AND}
 
@@ -10,16 +10,14 @@ Tells s n true = (i : ℕ) × (i < n) × (byte_at s i ≡ AND)
 Tells s n false = (i : ℕ) → i < n → byte_at s i ≡ AND → ⊥
 
 -- One byte more is looked at.
-pub tells_here : (s : List ℕ) (n : ℕ) {b : Bool} → byte_at s n ≡ AND → b ≡ true → Tells s (n + 1) b
-tells_here s n e z = rw z (n, omega arith, e)
-
-more : (s : List ℕ) (n : ℕ) (b : Bool) → Tells s n b → (byte_at s n ≡ AND → ⊥) → Tells s (n + 1) b
-more s n true (i, l, e) f = (i, omega arith, e)
-more s n false h f = λ i l e. go i l e (ℕ_discrete i n)
+pub tells_more : (s : List ℕ) (n : ℕ) (b : Bool) → Tells s n b → Tells s (n + 1) (b || eqb (byte_at s n) AND)
+tells_more s n true (i, l, e) = (i, omega arith, e)
+tells_more s n false h = go (ℕ_discrete (byte_at s n) AND)
   where
-    go : (i : ℕ) → i < n + 1 → byte_at s i ≡ AND → Dec (i ≡ n) → ⊥
-    go i l e (yes z) = f (rw z at e)
-    go i l e (no z) = h i (omega arith) e
+    none : (byte_at s n ≡ AND → ⊥) → (i : ℕ) → i < n + 1 → byte_at s i ≡ AND → Dec (i ≡ n) → ⊥
+    none f i l e (yes z) = f (rw z at e)
+    none f i l e (no z) = h i (omega arith) e
 
-pub tells_other : (s : List ℕ) (n : ℕ) {a b : Bool} → Tells s n a → (byte_at s n ≡ AND → ⊥) → b ≡ a → Tells s (n + 1) b
-tells_other s n {a} h f z = rw z (more s n a h f)
+    go : Dec (byte_at s n ≡ AND) → Tells s (n + 1) (eqb (byte_at s n) AND)
+    go (yes e) = subst (Tells s (n + 1)) (sym (eq-eqb (byte_at s n) AND e)) (n, omega arith, e)
+    go (no f) = subst (Tells s (n + 1)) (sym (ne_eqb (byte_at s n) AND f)) (λ i l e. none f i l e (ℕ_discrete i n))

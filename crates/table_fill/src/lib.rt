@@ -202,6 +202,7 @@ fn put_element(
 
 // Fills the tables, which are all 0, from an accepted type file whose elements are recorded in `elements`. Where no "&" stands in it there need be no table
 // of members. What they then hold for numbers past the type's elements and past a model's places is not decided: the state never stands there.
+// Kept: ten parameters: (plainer) as with `put_element`, and those that are read come from callers one by one.
 pub fn fill(
     long: usize,
     s: &[u8],
