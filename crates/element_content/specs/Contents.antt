@@ -1,5 +1,5 @@
 -- Laws of the rules' content: each way that reading it goes.
-use Rattle.std.specs.Prelude.{ℕ, Bool, Option, Some, None, Result, Ok, Err, ◌-◌, ◌≤◌, ◌<◌, ◌≡◌, refl, true, false, ◌&&◌, ◌||◌, List, [], length, ltb}
+use Rattle.std.specs.Prelude.{ℕ, Bool, Option, Some, Ok, Err, ◌-◌, ◌≤◌, ◌<◌, ◌≡◌, refl, true, false, ◌&&◌, ◌||◌, List, [], length, ltb}
 use Rattle.std.proofs.Common.{sym, ap, ap₂, ◌∙◌, arith, eq-eqb, ne_eqb, lt-ltb, le-ltb}
 use Rattle.rules.specs.Bytes.{byte_at, letter, name_end, GRPLVL, GRPO}
 use Rattle.rules.specs.Reading.{Reading, refused, got}
@@ -18,7 +18,6 @@ use Rattle.model_table.specs.Behind.{finished_behind}
 use Rattle.model_code.specs.Spelled.{codes, code_in, code_same}
 use Rattle.connectors.specs.Kept.{begun, Tabled, Keeps}
 use Rattle.connectors.specs.declared.Model as kept
-use Rattle.element_content.specs.declared.Model.{Model}
 use Rattle.element_content.specs.declared.Body.{Body}
 use Rattle.element_content.specs.Kept.{place, place_none, wrong_word, KeepsBody, MeetsBody}
 

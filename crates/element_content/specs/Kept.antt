@@ -1,5 +1,5 @@
 -- What is kept of the content of an element, in the rules' terms.
-use Rattle.std.specs.Prelude.{ℕ, zero, suc, Bool, false, Option, Some, None, Result, Ok, Err, ◌≤◌, ◌≡◌, ◌&&◌, cond, List, length, ltb, refl}
+use Rattle.std.specs.Prelude.{ℕ, zero, suc, false, Option, Some, None, Result, Ok, Err, ◌≤◌, ◌≡◌, ◌&&◌, cond, List, length, ltb, refl}
 use Rattle.std.proofs.Common.{arith}
 use Rattle.rules.specs.Reading.{Reading, refused, got}
 use Rattle.rules.specs.TypeFile.{Content, empty, model, ContentEnd, is_cut, EMPTY}

@@ -10,8 +10,8 @@ use connectors::Counts;
 use layout::{GRPLVL, MODEL, NAMES};
 use text::{Fault, Reading, Refusal};
 
-// What is kept of a model: its content tokens and places, how many numbers its code has, whether an "&" stands in it, and where the first "&" stands that is
-// refused.
+// What is kept of a model: its content tokens and places, how many numbers its code has, whether an "&"
+// stands in it, and where the first "&" stands that is refused.
 #[derive(Clone, Copy)]
 pub struct Model {
     pub tokens: usize,
@@ -81,6 +81,9 @@ fn place(at: usize) -> Option<usize>
 }
 
 // A model group as content, with its names and its table.
+// Kept: (plainer) `names` and `table` are lent one by one, here and in the crates above: what is called with
+// them writes one of the two (`model_names` the names, `model_table` and `model_code` the table), and the
+// contracts speak of both lists. A struct of both would be taken apart at each call.
 fn body_model(
     long: usize,
     s: &[u8],
@@ -113,8 +116,8 @@ fn body_model(
     })
 }
 
-// The content at i, where the parameter before ended at `from`. Where it is refused or EMPTY, what `names` and `table` hold is not decided,
-// nor is what they hold behind the places of a model.
+// The content at i, where the parameter before ended at `from`. Where it is refused or EMPTY, what `names`
+// and `table` hold is not decided, nor is what they hold behind the places of a model.
 pub fn body_at(
     long: usize,
     s: &[u8],

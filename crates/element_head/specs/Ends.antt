@@ -5,13 +5,8 @@ use Rattle.rules.specs.TypeFile.{words}
 use Rattle.text.specs.declared.Fault.{Fault}
 use Rattle.rules_laws.specs.Declarations.{words_range}
 use Rattle.rules.specs.Bytes.{element_limit}
-use Rattle.element_names.specs.Names.{NameIn}
 use Rattle.element_head.specs.declared.Head as here
 use Rattle.element_head.specs.Heads.{head_in, head_of, HeadIn}
-
--- A name that was read.
-pub name_in : (long : ℕ) {end i count e : ℕ} {r : Result ℕ Fault} → NameIn long end i count r → r ≡ Ok e → (i ≤ e) × (e ≤ end) × (count < element_limit) × (e ≤ i + long)
-name_in long h q = rw q at h
 
 -- A head that was read, where the gap before its name began at `from`.
 pub head_in_lem : (long : ℕ) (s : List ℕ) (i e from count : ℕ) (r : Result here.Head Fault) → head_of r ≡ words long s i e → from ≤ i → i ≤ e → e ≤ length s → count < element_limit → e ≤ i + long
@@ -20,7 +15,3 @@ head_in_lem long s i e from count (Ok h) q a b d f l =
     let range = words_range long s i e (head_in h) d (sym q) in
     omega arith
 head_in_lem long s i e from count (Err f) q a b d g l = tt
-
-pub head_within : (long : ℕ) {end from count : ℕ} {r : Result here.Head Fault} {h : here.Head} → HeadIn long end from count r → r ≡ Ok h
-    → (from ≤ h.at) × (h.at ≤ end) × (h.offset ≤ end) × (h.size ≤ end) × (count < element_limit) × (h.size ≤ long)
-head_within long h q = rw q at h

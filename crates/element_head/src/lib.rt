@@ -11,7 +11,8 @@ ghost use Rattle.element_head.specs.Heads.{omission_of, head_of, HeadIn};
 use element_names::Declared;
 use text::{Reading, Refusal};
 
-// What stands before the content: where the name stands, whether the start tag and the end tag may be omitted, where reading goes on.
+// What stands before the content: where the name stands, whether the start tag and the end tag may be
+// omitted, and where reading goes on.
 #[derive(Drop)]
 pub struct Head {
     pub offset: usize,
@@ -21,7 +22,8 @@ pub struct Head {
     pub at: usize,
 }
 
-// A word of omitted tag minimization: whether the tag may be omitted ("O", and not "-"), and where the word ends.
+// A word of omitted tag minimization: whether the tag may be omitted ("O", and not "-"), and where the word
+// ends.
 #[derive(Drop)]
 pub struct Word {
     pub omitted: bool,
@@ -55,11 +57,12 @@ fn omission_at(long: usize, s: &[u8], from: usize, i: usize) -> Reading<Word>
     Err(Refusal::Malformed.at(i))
 }
 
-// From the end of the keyword to the second word. Where the table holds no records of elements, the answer is not decided, but for its range.
+// From the end of the keyword to the second word. Where the table holds no records of elements, the answer is
+// not decided, but for its range.
 pub fn head_at(long: usize, s: &[u8], at: usize, d: Declared) -> Reading<Head>
     requires { (at ≤ length s.now) × (length s.now ≤ type_limit) }
-    ensures result_value { (es : List rules.Element) → length es ≡ d.entry.count → Recorded d.entry.records.now es →
-        head_of result ≡ head long s.now at es }
+    ensures result_value { (es : List rules.Element) → length es ≡ d.entry.count →
+        Recorded d.entry.records.now es → head_of result ≡ head long s.now at es }
     ensures head_in { HeadIn long (length s.now) at d.entry.count result }
 {
     let i = gaps::gap_end(s, at)?;

@@ -211,14 +211,8 @@ pub record Seeks (s : List ℕ) (es : List Element) (t : List ℕ) (at size befo
 pub seeks_counted : {s : List ℕ} {es : List Element} {t : List ℕ} {at size before k n m : ℕ} → n ≡ m → Seeks s es t at size before k n → Seeks s es t at size before k m
 seeks_counted e w = rw (← e) w
 
--- What the code tests, one after the other.
+-- What the code tests.
 module _ (s elements : List ℕ) (before k size : ℕ) where
-  pub follows_falls : k ≤ before → false ≡ follows s elements before k size
-  follows_falls h = rw (le-ltb before k h)
-
-  pub follows_over : before < k → element_limit < k → false ≡ follows s elements before k size
-  follows_over h l = rw (lt-ltb before k h, lt-leb k element_limit l)
-
   pub follows_true : {r : Bool} → r ≡ follows s elements before k size → r ≡ true → (before < k) × (k ≤ element_limit) × (get_or elements (record_width * (k - 1)) 0 + size ≤ length s)
   follows_true e q =
       let w = rw q at e in

@@ -1,7 +1,8 @@
 // The elements of a type by name.
 //
-// `index`: number k is the next larger element whose name has the same length and first letter as that of k, or 0.
-// Number `CONTENTS` + b is the smallest element of the bucket b. `elements` are the records of the type's elements.
+// `index`: number k is the next larger element whose name has the same length and first letter as that of
+// k, or 0. Number `CONTENTS` + b is the smallest element of the bucket b. `elements` are the records of the
+// type's elements.
 #![tactic(auto)]
 
 ghost use Rattle.std.specs.Prelude.{◌≡◌, List, ◌+◌, ◌-◌, ◌*◌, ◌≤◌, ◌<◌, length, get_or, replicate};
@@ -36,8 +37,10 @@ pub fn offset(elements: &[u32; RECORDS], k: ElementNo) -> usize
     elements[RECORD * (k.0 - 1)] as usize
 }
 
-// Whether n bytes of s from a and n bytes of t from b are equal, folded, where the first ones are: they have one bucket. Where these are not, what it answers is
-// not decided. All of the bytes are there, so that none is asked whether it still is within, as `words::same_text` does. Most that are equal are so as they stand.
+// Whether n bytes of s from a and n bytes of t from b are equal, folded, where the first ones are: they
+// have one bucket. Where these are not, what it answers is not decided. All of the bytes are there, so that
+// none is asked whether it still is within, as `words::same_text` does. Most that are equal are so as they
+// stand.
 fn same_name(s: &[u8], a: usize, t: &[u8], b: usize, n: usize) -> bool
     requires { (1 ≤ n) × (a + n ≤ length s.now) × (b + n ≤ length t.now) }
     ensures { fold (byte_at s.now a) ≡ fold (byte_at t.now b) → result ≡ same_text s.now a t.now b n }
@@ -53,16 +56,18 @@ fn same_name(s: &[u8], a: usize, t: &[u8], b: usize, n: usize) -> bool
 }
 
 // An element by its name, 0 if none has it, and with how many names that name was compared.
-// Kept: two results, and not one value under a condition. What 0 stands for is an `ElementNo` of its own, which the open elements and the tables hold too; the
-// contracts say `result.element.0 ≡ number_of ..`, and an `Option` here would be made a 0 again by each caller.
+// Kept: (plainer) two results, and not one value under a condition. That 0 is no element is what
+// `ElementNo` says, and the tables of a type hold it so: the contracts say `result.element.0 ≡ number_of
+// ..`, and each caller would make a 0 of an `Option` again.
 #[derive(Drop)]
 pub struct Found {
     pub element: ElementNo,
     pub compared: usize,
 }
 
-// Whether the element k comes behind the one before it, and a name of this size stands in s where its record says. In the index of a type
-// it does. Where the tables hold anything else, a search still ends and stays within them.
+// Whether the element k comes behind the one before it, and a name of this size stands in s where its
+// record says. In the index of a type it does. Where the tables hold anything else, a search still ends and
+// stays within them.
 fn comes_next(
     s: &[u8],
     elements: &[u32; RECORDS],
@@ -76,9 +81,9 @@ fn comes_next(
     before.0 < k.0 && k.0 <= ELEMENTS && offset(elements, k) + size <= s.len()
 }
 
-// Which element has the name of this size at `at` of t, which lies within t. The type file is s. Only names of the same length and first
-// letter are compared, in declaration order, up to the one that is found. Where `index` is no index of a type neither answer is decided, but
-// that both are at most `ELEMENTS`.
+// Which element has the name of this size at `at` of t, which lies within t. The type file is s. Only names
+// of the same length and first letter are compared, in declaration order, up to the one that is found.
+// Where `index` is no index of a type neither answer is decided, but that both are at most `ELEMENTS`.
 pub fn find(
     s: &[u8],
     elements: &[u32; RECORDS],
@@ -89,8 +94,10 @@ pub fn find(
 ) -> Found
     requires { (1 ≤ size) × (size ≤ most_name_length) × (at + size ≤ length t.now) }
     ensures element_value { (es : List Element) → Indexed s.now es elements.now index.now →
-        (result.element.0 ≡ number_of s.now es t.now at size) × (result.compared ≡ compared s.now es t.now at size) }
-    ensures element_le_element_limit { (result.element.0 ≤ element_limit) × (result.compared ≤ element_limit) }
+        (result.element.0 ≡ number_of s.now es t.now at size)
+        × (result.compared ≡ compared s.now es t.now at size) }
+    ensures element_le_element_limit { (result.element.0 ≤ element_limit)
+        × (result.compared ≤ element_limit) }
 {
     let first = text::byte(t, at);
     let none = ElementNo(0);
@@ -100,7 +107,7 @@ pub fn find(
             compared: 0,
         };
     }
-    // Kept: it goes along links, and no index is counted, so that a `for` over a range or a slice is no plainer.
+    // Kept: (plainer) the loop goes along links. No index is counted, and there is no slice to go over.
     let mut before = none;
     let mut k = ElementNo(usize::from(index[bucket(first, size)]));
     let mut n = 0;
@@ -124,9 +131,12 @@ pub fn find(
 
 // The element k comes before those of its bucket that are there.
 fn put_index(s: &[u8], elements: &[u32; RECORDS], index: &mut [u8; INDEX], k: ElementNo)
-    requires { (1 ≤ k.0) × (k.0 ≤ element_limit) × (1 ≤ get_or elements.now (record_width * (k.0 - 1) + 1) 0) × (get_or elements.now (record_width * (k.0 - 1) + 1) 0 ≤ most_name_length) }
+    requires { (1 ≤ k.0) × (k.0 ≤ element_limit)
+        × (1 ≤ get_or elements.now (record_width * (k.0 - 1) + 1) 0)
+        × (get_or elements.now (record_width * (k.0 - 1) + 1) 0 ≤ most_name_length) }
     ensures { index.new ≡ put_in index.old
-        (bucket_of (byte_at s.now (get_or elements.now (record_width * (k.0 - 1)) 0)) (get_or elements.now (record_width * (k.0 - 1) + 1) 0)) k.0 }
+        (bucket_of (byte_at s.now (get_or elements.now (record_width * (k.0 - 1)) 0))
+        (get_or elements.now (record_width * (k.0 - 1) + 1) 0)) k.0 }
 {
     let i = k.0;
     let size = elements[RECORD * (i - 1) + 1] as usize;

@@ -1,4 +1,5 @@
-// The name of an element that is declared: at most as long as the caller says, declared for the first time, and at most the 64th.
+// The name of an element that is declared: at most as long as the caller says, declared for the first time,
+// and at most the 64th.
 #![tactic(auto)]
 
 ghost use Rattle.std.specs.Prelude.{◌≡◌, List, ◌≤◌, ◌<◌, length, get_or};
@@ -22,6 +23,7 @@ pub struct Declared<'a> {
 }
 
 // Whether a name is declared, and with how many names it was compared.
+// Kept: (plainer) two results, and not one value under a condition: the count stands beside both answers.
 #[derive(Drop)]
 pub struct Lookup {
     pub found: bool,
@@ -49,13 +51,14 @@ impl<'a> Declared<'a> {
         text::folded(first) == text::folded(text::byte(s, at))
     }
 
-    // Whether one of the elements has the name of this size at `at`. Only names of the same length and first letter are compared, in
-    // declaration order, up to the one that is found. Where the table holds no records of elements the answer is not decided, but that at
-    // most `count` names are compared.
+    // Whether one of the elements has the name of this size at `at`. Only names of the same length and
+    // first letter are compared, in declaration order, up to the one that is found. Where the table holds
+    // no records of elements the answer is not decided, but that at most `count` names are compared.
     pub fn find(self, s: &[u8], at: usize, size: usize) -> Lookup
         requires { (at < 4294967296) × (1 ≤ size) × (size < 4294967296) }
-        ensures found_value { (es : List rules.Element) → length es ≡ self.entry.count → Recorded self.entry.records.now es →
-            (result.found ≡ is_declared s.now es at size) × (result.compared ≡ compared s.now es s.now at size) }
+        ensures found_value { (es : List rules.Element) → length es ≡ self.entry.count →
+            Recorded self.entry.records.now es → (result.found ≡ is_declared s.now es at size)
+            × (result.compared ≡ compared s.now es s.now at size) }
         ensures compared_le_count { result.compared ≤ self.entry.count }
     {
         let mut n = 0;
@@ -77,12 +80,13 @@ impl<'a> Declared<'a> {
     }
 }
 
-// The name of the element, declared for the first time, at most the 64th. Where the table holds no records of elements the answer is
-// not decided, but that a name that is got lies in the input, has at most `long` bytes, and is at most the 64th.
+// The name of the element, declared for the first time, at most the 64th. Where the table holds no records
+// of elements the answer is not decided, but that a name that is got lies in the input, has at most `long`
+// bytes, and is at most the 64th.
 pub fn element_name(long: usize, s: &[u8], i: usize, d: Declared) -> Reading<usize>
     requires { (i ≤ length s.now) × (length s.now ≤ type_limit) }
-    ensures result_value { (es : List rules.Element) → length es ≡ d.entry.count → Recorded d.entry.records.now es →
-        reached result ≡ element_name long s.now i es }
+    ensures result_value { (es : List rules.Element) → length es ≡ d.entry.count →
+        Recorded d.entry.records.now es → reached result ≡ element_name long s.now i es }
     ensures name_in { NameIn long (length s.now) i d.entry.count result }
 {
     let b = text::byte(s, i);

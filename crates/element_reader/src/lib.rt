@@ -16,8 +16,8 @@ use element_names::Declared;
 use layout::{MODEL, NAMES, RECORDS};
 use text::{Reading, Refusal};
 
-// A whole declaration: where the name stands, whether the start tag and the end tag may be omitted, the model of the content, or none for EMPTY, and where
-// reading goes on.
+// A whole declaration: where the name stands, whether the start tag and the end tag may be omitted, the
+// model of the content, or none for EMPTY, and where reading goes on.
 #[derive(Clone, Copy)]
 pub struct Element {
     pub offset: usize,
@@ -53,7 +53,8 @@ fn rest_at(
     names: &mut [u32; NAMES],
     table: &mut [u8; MODEL],
 ) -> Reading<Element>
-    requires { (h.at ≤ length s.now) × (length s.now ≤ type_limit) × (h.offset ≤ length s.now) × (h.size ≤ length s.now) }
+    requires { (h.at ≤ length s.now) × (length s.now ≤ type_limit) × (h.offset ≤ length s.now)
+        × (h.size ≤ length s.now) }
     ensures { (es : List rules.Element) → MeetsElement (length s.now) h.at names.new table.new es result
         (rest long s.now es (head_in h)) }
 {
@@ -72,8 +73,10 @@ fn rest_at(
     })
 }
 
-// An element declaration whose keyword ends at `at`, after those recorded in `elements`. Where it is refused or the content is EMPTY,
-// what `names` and `table` hold is not decided; nor is what they hold behind the places of a model. Where `elements` holds no records of elements, all that is decided is that one more has room.
+// An element declaration whose keyword ends at `at`, after those recorded in `elements`. Where it is
+// refused or the content is EMPTY, what `names` and `table` hold is not decided; nor is what they hold
+// behind the places of a model. Where `elements` holds no records of elements, all that is decided is that
+// one more has room.
 pub fn element_at(
     long: usize,
     s: &[u8],

@@ -1,11 +1,11 @@
 -- Laws of the first pair at fault: what the search for one says of a model, and what is pending after it.
-use Rattle.std.specs.Prelude.{ℕ, Option, Some, None, true, ◌-◌, ◌≤◌, ◌<◌, ◌≡◌, Bool, false, ◌⊎◌, List, [], ◌∷◌, ◌++◌}
-use Rattle.std.proofs.Common.{sym, ap, subst, inl, inr, ⊎_elim, arith}
+use Rattle.std.specs.Prelude.{ℕ, Option, Some, None, true, ◌-◌, ◌≤◌, ◌<◌, ◌≡◌, Bool, false, List, [], ◌∷◌, ◌++◌}
+use Rattle.std.proofs.Common.{arith}
 use Rattle.std.specs.Option.{is_some}
 use Rattle.rules.specs.Walk.{Group}
 use Rattle.rules.specs.TypeFile.{Place, Content, empty, model, Element}
 use Rattle.rules.specs.Judge.{Unambiguous, AllUnambiguous, PairStandsAt, FirstAmbiguous, here, later}
-use Rattle.model_sets.specs.Search.{search_pair, search_pair_cases}
+use Rattle.model_sets.specs.Search.{search_pair}
 use Rattle.model_names.specs.Places.{place_in}
 use Rattle.model_names.specs.Shared.{place_at_places_of}
 use Rattle.and_laws.specs.Fold.{clash}

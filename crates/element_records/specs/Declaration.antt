@@ -1,5 +1,5 @@
 -- What the element reader's answer makes of what is kept.
-use Rattle.std.specs.Prelude.{ℕ, zero, suc, Option, Some, None, Result, Ok, Err, ◌+◌, ◌*◌, ◌≤◌, ◌<◌, ◌≡◌, refl, List, [], ◌∷◌, ◌++◌, length, take}
+use Rattle.std.specs.Prelude.{ℕ, zero, suc, Option, Some, None, Ok, Err, ◌+◌, ◌*◌, ◌≤◌, ◌<◌, ◌≡◌, refl, List, [], ◌∷◌, ◌++◌, length, take}
 use Rattle.std.proofs.Common.{sym, ap, ◌∙◌, arith, ne_eqb}
 use Rattle.std.specs.Option.{option_or}
 use Rattle.rules.specs.Reading.{Reading, refused, got}
@@ -9,7 +9,7 @@ use Rattle.rules_laws.specs.Groups.{earlier_none}
 use Rattle.rules.specs.Bytes.{GRPGTCNT, element_limit, type_limit}
 use Rattle.text.specs.declared.Fault.{Fault}
 use Rattle.element_content.specs.declared.Model.{Model}
-use Rattle.element_content.specs.Kept.{place, place_none, repeated_of, KeepsContent, content_places}
+use Rattle.element_content.specs.Kept.{place, repeated_of, KeepsContent, content_places}
 use Rattle.element_reader.specs.Keeps.{KeepsElement, MeetsElement}
 use Rattle.element_reader.specs.declared as declared
 use Rattle.element_records.specs.declared.Clash.{Clash}

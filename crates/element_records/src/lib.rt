@@ -1,4 +1,5 @@
-// The elements of a type file as they are read: each is recorded in the table of elements, and the first pair at fault is kept.
+// The elements of a type file as they are read: each is recorded in the table of elements, and the first
+// pair at fault is kept.
 #![tactic(auto)]
 
 ghost use Rattle.std.specs.Prelude.{◌≡◌, List, ◌++◌, ◌+◌, ◌*◌, ◌≤◌, ◌<◌, length, take};
@@ -8,7 +9,8 @@ ghost use Rattle.rules.specs.Bytes.{GRPGTCNT, element_limit, type_limit};
 ghost use Rattle.rules.specs.Judge.{record_width};
 ghost use Rattle.layout.specs.Sizes.{RECORDS};
 ghost use Rattle.element_content.specs.Kept.{repeated_of, KeepsContent};
-ghost use Rattle.element_records.specs.Progress.{numbers_of, tokens_of, Pending, PendingWith, KeepsProgress, InProgress, MeetsStep};
+ghost use Rattle.element_records.specs.Progress.{numbers_of, tokens_of, Pending, PendingWith};
+ghost use Rattle.element_records.specs.Progress.{KeepsProgress, InProgress, MeetsStep};
 
 use element_content::Model;
 use element_reader::Element;
@@ -23,7 +25,8 @@ pub struct Clash {
     pub second: u32,
 }
 
-// How far the type file was read, how many elements it has so far, the first pair at fault, and where the first "&" stands that is refused.
+// How far the type file was read, how many elements it has so far, the first pair at fault, and where the
+// first "&" stands that is refused.
 #[derive(Drop)]
 pub struct Progress {
     pub at: usize,
@@ -37,10 +40,13 @@ pub fn whole(elements: [u32; RECORDS])
     ensures { length elements ≡ RECORDS }
 {}
 
-// The record of the element that was declared after k others: its content is 0, or 1 and the content tokens of its model.
+// The record of the element that was declared after k others. Its content is 0 for EMPTY, or 1 and the
+// content tokens of its model.
 fn put_record(elements: &mut [u32; RECORDS], k: usize, e: Element)
-    requires { (k < element_limit) × (e.offset < 4294967296) × (e.size < 4294967296) × (tokens_of e.model < 4294967296) }
-    ensures { take (record_width * (k + 1)) elements.new ≡ take (record_width * k) elements.old ++ numbers_of e }
+    requires { (k < element_limit) × (e.offset < 4294967296) × (e.size < 4294967296)
+        × (tokens_of e.model < 4294967296) }
+    ensures { take (record_width * (k + 1)) elements.new
+        ≡ take (record_width * k) elements.old ++ numbers_of e }
 {
     let (kind, tokens) = match e.model {
         Some(m) => (1, m.tokens),
@@ -54,8 +60,8 @@ fn put_record(elements: &mut [u32; RECORDS], k: usize, e: Element)
     elements[RECORD * k + 5] = tokens as u32;
 }
 
-// The first pair at fault so far, where the element read last has the model in `names` and `table`, or is EMPTY. Where an "&" of the model is refused, it is
-// not decided.
+// The first pair at fault so far, where the element read last has the model in `names` and `table`, or is
+// EMPTY. Where an "&" of the model is refused, it is not decided.
 fn clash_with(
     s: &[u8],
     c: Option<Clash>,
@@ -82,8 +88,16 @@ fn clash_with(
     })
 }
 
-// An element declaration whose keyword ends at `at`, after those that p counts. What stands in `elements` behind the records, or where it is
-// refused in all of it, is not decided, nor what `names` and `table` hold after any answer.
+// Where the first "&" of a content stands that is refused.
+fn repeated_in(model: Option<Model>) -> Option<usize>
+    ensures { result ≡ repeated_of model }
+{
+    model?.repeated
+}
+
+// An element declaration whose keyword ends at `at`, after those that p counts. What stands in `elements`
+// behind the records, or where it is refused in all of it, is not decided, nor what `names` and `table`
+// hold after any answer.
 pub fn element_at(
     long: usize,
     s: &[u8],
@@ -101,14 +115,10 @@ pub fn element_at(
     let count = p.count;
     let e = element_reader::element_at(long, s, at, elements, count, names, table)?;
     put_record(elements, count, e);
-    let refused = match e.model {
-        Some(m) => m.repeated,
-        None => None,
-    };
     Ok(Progress {
         at: e.at,
         count: count + 1,
         clash: clash_with(s, p.clash, e.model, names, table),
-        repeated: p.repeated.or(refused),
+        repeated: p.repeated.or(repeated_in(e.model)),
     })
 }

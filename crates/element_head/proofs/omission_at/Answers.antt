@@ -1,7 +1,7 @@
 -- `omission_at` meets its contract: each way by the tests that led there.
 use Rattle.std.proofs.Common.{◌≡◌, ℕ, ◌≤◌, true, false, ◌&&◌, ◌⊎◌, inl, inr, sym, ap, ◌∙◌, eqb, ltb, arith, ne_eqb, lt-ltb, le-ltb}
 use Rattle.std.proofs.Math.Bool.{and-false}
-use Rattle.rules.specs.Bytes.{byte_at, letter, name_end, MINUS}
+use Rattle.rules.specs.Bytes.{letter, name_end, MINUS}
 use Rattle.rules.specs.TypeFile.{is_word, O}
 use Rattle.text.specs.Refusal.{refusal_of}
 use Rattle.text.specs.Words.{tested, name_end_from, name_end_le}

@@ -1,13 +1,12 @@
 -- `element_at` meets its contract: what the element reader refuses is refused, and what it reads is recorded behind the elements before.
-use Rattle.std.proofs.Common.{◌≡◌, sym, ap, ap₂, ◌∙◌, arith}
+use Rattle.std.proofs.Common.{◌≡◌, sym, ap₂, ◌∙◌, arith}
 use Rattle.std.specs.Option.{option_or}
 use Rattle.rules.specs.TypeFile.{element, earlier}
 use Rattle.rules.specs.Judge.{first_repeated}
 use Rattle.text.specs.Words.{passed_on}
-use Rattle.element_content.specs.Kept.{place, repeated_of}
+use Rattle.element_content.specs.Kept.{place}
 use Rattle.element_records.specs.Declaration.{place_or, element_refused, element_kept, element_fits, element_places, element_step}
 use Rattle.element_records.proofs.element_at.Goals as goal
-use Rattle.element_records.proofs.element_at.Goals.{in-Some, in-None}
 
 pub element_at-requires : goal.element_at-requires
 element_at-requires c =
@@ -47,9 +46,7 @@ returns c es k =
     let r = c.element_at in
     let e = c.in_ok-e.e in
     let (d, q, m) = element_kept a.s.now a.at r.new.names r.new.table es (element a.long a.s.now a.at es) e (c.in_ok-e.ensures.meets_element es (sym k.counted) k.recorded) in
-    let refused : c.match-e.refused ≡ repeated_of e.model =
-    elim c.match-e.branch [ in-Some w ↦ w.refused-is ∙ sym (ap repeated_of w.in-Some.is) | in-None w ↦ w.refused-is ∙ sym (ap repeated_of w.in-None.is) ] in
     let first : c.or.result ≡ place (earlier (first_repeated es) m.element.repeated) =
-    c.or.ensures ∙ ap₂ option_or k.repeated_at (refused ∙ m.repeated_at) ∙ place_or (first_repeated es) m.element.repeated in
+    c.or.ensures ∙ ap₂ option_or k.repeated_at (c.repeated_in.ensures ∙ m.repeated_at) ∙ place_or (first_repeated es) m.element.repeated in
     element_step a.s.now a.at r.new.names r.new.table es e d m a.elements.now c.put_record.new.elements a.p c.clash_with.result _ (element a.long a.s.now a.at es) q k c.in_ok-e.ensures.element_in c.put_record.ensures
     first (λ y z. c.clash_with.ensures es m.element.content (k.pending y) m.content z)

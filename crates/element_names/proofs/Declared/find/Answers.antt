@@ -20,16 +20,15 @@ returns-then-same_text c =
 pub loop-k-preserved : goal.loop-k-preserved
 loop-k-preserved c =
     let a = c.args in
-    let so_far = c.loop-k.invariant.1 in
-    (
+    let so_far = c.loop-k.invariant.1 in (
       elim c.if-is_alike.branch [ then-is_alike+else-same_text w ↦ omega arith | else-is_alike w ↦ omega arith ],
       λ es l r.
-      elim c.if-is_alike.branch [
-        | then-is_alike+else-same_text w ↦
-            seeks_other a.s.now a.at a.size a.self.records.now es r _ _ (omega arith) (so_far es l r) (sym c.is_alike.ensures ∙ w.if-is_alike.true)
-            (rw w.number.ensures.0 at (sym w.same_text.ensures ∙ w.if-same_text.false)) w.n-is
-        | else-is_alike w ↦ seeks_passed a.s.now a.at a.size a.self.records.now es r _ _ (omega arith) (so_far es l r) (omega arith) (sym c.is_alike.ensures ∙ w.if-is_alike.false) w.n-is
-      ],
+          elim c.if-is_alike.branch [
+            | then-is_alike+else-same_text w ↦
+                seeks_other a.s.now a.at a.size a.self.records.now es r _ _ (omega arith) (so_far es l r) (sym c.is_alike.ensures ∙ w.if-is_alike.true)
+                (rw w.number.ensures.0 at (sym w.same_text.ensures ∙ w.if-same_text.false)) w.n-is
+            | else-is_alike w ↦ seeks_passed a.s.now a.at a.size a.self.records.now es r _ _ (omega arith) (so_far es l r) (omega arith) (sym c.is_alike.ensures ∙ w.if-is_alike.false) w.n-is
+          ],
     )
 
 pub returns : goal.returns
