@@ -1,7 +1,8 @@
-// The attribute events before a start event, in declaration order: those that a tag gives, and those that are defaulted.
+// The attribute events before a start event, in declaration order: those that a tag gives, and those that
+// are defaulted.
 //
-// `lists` is that of the crate list_table, `marks` that of attribute_marks. n is how many events there are so far; they are put to `numbers` and
-// `bytes` (crate event_buffer).
+// `lists` is that of the crate list_table, `marks` that of attribute_marks. n is how many events there are
+// so far; they are put to `numbers` and `bytes` (crate event_buffer).
 #![tactic(auto)]
 
 ghost use Rattle.std.specs.Prelude.{◌+◌, ◌≤◌, ◌<◌};
@@ -11,7 +12,8 @@ ghost use Rattle.attribute_events.specs.PutBefore.{PutsOne, PutsWritten, PutsDef
 use event_buffer::Kind;
 use layout::{AttributeNo, ElementNo, MARKS};
 
-// The event of the attribute k of the element e, from 0, of which the marks say how it is written: none where it is not and is required or implied.
+// The event of the attribute k of the element e, from 0, of which the marks say how it is written: none
+// where it is not and is required or implied.
 fn put_one(
     lists: &[u16],
     e: ElementNo,
@@ -22,7 +24,8 @@ fn put_one(
     numbers: &mut [u32],
     bytes: &mut [u8],
 ) -> usize
-    requires { (1 ≤ e.0) × (e.0 ≤ element_limit) × (k < ATTCNT) × (at < 4294967296) × (size < 4294967296) × (n < 4294967296) }
+    requires { (1 ≤ e.0) × (e.0 ≤ element_limit) × (k < ATTCNT) × (at < 4294967296) ×
+        (size < 4294967296) × (n < 4294967296) }
     ensures { PutsOne lists.now e.0 k at size n numbers.old bytes.old result numbers.new bytes.new }
 {
     let a = AttributeNo(k + 1);
@@ -60,8 +63,8 @@ fn put_all(
     m
 }
 
-// Puts the attribute events before the start of the element e that a tag with these marks brings, none for data, and gives how many events there are now. A type without attributes is told at
-// once.
+// Puts the attribute events before the start of the element e that a tag with these marks brings, none for
+// data, and gives how many events there are now. A type without attributes is told at once.
 pub fn put_written(
     lists: &[u16],
     marks: &[u16; MARKS],

@@ -33,7 +33,7 @@ fn declaration_at(s: &[u8], i: usize) -> Reading<Piece>
         return Ok(Piece::Skipped(i + 3));
     }
     if delimiters::dashes_at(s, i) {
-        // What is refused in a comment declaration is malformed: a document has no `%` that could be left out.
+        // What is refused in a comment declaration is malformed: a document has no `%` to leave out.
         let after = gaps::comment_end(s, i + 2).map_err(|f| Refusal::Malformed.at(f.at))?;
         return Ok(Piece::Skipped(after));
     }
@@ -92,7 +92,8 @@ fn byte_at(s: &[u8], i: usize) -> Reading<Piece>
     Ok(Piece::Data)
 }
 
-// What stands at i, where the document does not end. Where it is a start tag, `given` has the attributes that it gives (crate tag_attributes); else what that holds is not decided.
+// What stands at i, where the document does not end. Where it is a start tag, `given` has the attributes
+// that it gives (crate tag_attributes); else what that holds is not decided.
 pub fn piece_at(
     long: usize,
     classes: &[u8; 256],

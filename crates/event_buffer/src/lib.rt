@@ -26,7 +26,8 @@ pub enum Kind {
 // What stands for an event, after what stands for n events, if it fits.
 fn note<T: Copy, const N: usize>(buffer: &mut [T], n: usize, event: &[T; N])
     requires { N * n + N < 18446744073709551616 }
-    ensures fits { N * n + N ≤ length buffer.old → buffer.new ≡ take (N * n) buffer.old ++ (event.now ++ drop (N * n + N) buffer.old) }
+    ensures fits { N * n + N ≤ length buffer.old →
+        buffer.new ≡ take (N * n) buffer.old ++ (event.now ++ drop (N * n + N) buffer.old) }
     ensures full { length buffer.old < N * n + N → buffer.new ≡ buffer.old }
 {
     let i = N * n;
@@ -44,8 +45,10 @@ fn as_bytes(event: &[u32; EVENT]) -> [u8; EVENT_BYTES]
     bytes
 }
 
-// An event, after n others, to each buffer that it fits whole; where n + 1 are there it goes over the last of them. What a buffer holds that is too small for all events is not decided;
-// it keeps its length. Nor is it where the n events in one buffer are not those in the other.
+// An event, after n others, to each buffer that it fits whole; where n + 1 are there it goes over the last
+// of them. What a buffer holds that is too small for all events is not decided; it keeps its length. Nor is
+// it where the n events in one buffer are not those in the other.
+// Kept: `kind` is a number (fixed): a parameter takes no narrower type. Callers write `Kind::Data as u32`.
 pub fn put_event(
     numbers: &mut [u32],
     bytes: &mut [u8],
@@ -56,8 +59,10 @@ pub fn put_event(
     size: usize,
     place: Place,
 ) -> usize
-    requires { (n < 4294967296) × (element.0 < 4294967296) × (at < 4294967296) × (size < 4294967296) × (place.0 < 4294967296) }
-    ensures { (result ≡ n + 1) × Puts numbers.old bytes.old n (noted kind element.0 at size place.0 ∷ []) numbers.new bytes.new ×
+    requires { (n < 4294967296) × (element.0 < 4294967296) × (at < 4294967296) × (size < 4294967296) ×
+        (place.0 < 4294967296) }
+    ensures { (result ≡ n + 1) ×
+        Puts numbers.old bytes.old n (noted kind element.0 at size place.0 ∷ []) numbers.new bytes.new ×
         PutsOver numbers.old bytes.old n (noted kind element.0 at size place.0) numbers.new bytes.new }
 {
     let event = [
@@ -72,7 +77,8 @@ pub fn put_event(
     n + 1
 }
 
-// The event of an attribute, after n others, as `put_event` puts one: kind 7 or 8, its number, and offset and length of its value.
+// The event of an attribute, after n others, as `put_event` puts one: kind 7 or 8, its number, and offset
+// and length of its value.
 pub fn put_attribute(
     numbers: &mut [u32],
     bytes: &mut [u8],
@@ -83,7 +89,8 @@ pub fn put_attribute(
     size: usize,
 ) -> usize
     requires { (n < 4294967296) × (attribute.0 < 4294967296) × (at < 4294967296) × (size < 4294967296) }
-    ensures { (result ≡ n + 1) × Puts numbers.old bytes.old n (noted kind attribute.0 at size 0 ∷ []) numbers.new bytes.new }
+    ensures { (result ≡ n + 1) ×
+        Puts numbers.old bytes.old n (noted kind attribute.0 at size 0 ∷ []) numbers.new bytes.new }
 {
     // The number of an attribute stands where that of an element does.
     put_event(

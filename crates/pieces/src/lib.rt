@@ -1,8 +1,9 @@
 // What stands at a position of a document, names looked up.
 //
-// `begun` has the bits of what has begun in each open element, `classes` is the table of delimiters, `given` that of tag_attributes, `marks` that of
-// attribute_marks. Where the tables are no type's, what is found is not decided, but that its element is at most 64 and that it ends
-// further on, within the document, unless it is refused.
+// `begun` has the bits of what has begun in each open element, `classes` is the table of delimiters,
+// `given` that of tag_attributes, `marks` that of attribute_marks. Where the tables are no type's, what is
+// found is not decided, but that its element is at most 64 and that it ends further on, within the
+// document, unless it is refused.
 #![tactic(auto)]
 
 ghost use Rattle.std.specs.Prelude.{◌≡◌, true, List, ◌+◌, ◌*◌, ◌-◌, ◌≤◌, ◌<◌, length};
@@ -33,8 +34,9 @@ use tags::Tag;
 use text::{Reading, Refusal};
 use type_tables::TypeTables;
 
-// What a document is read under: how long a name may be and the edition, the type file, the records of its elements and their index (crate element_index), the
-// tables of the type, and its attribute lists (crate list_table).
+// What a document is read under: how long a name may be and the edition, the type file, the records of its
+// elements and their index (crate element_index), the tables of the type, and its attribute lists (crate
+// list_table).
 #[derive(Clone, Copy)]
 pub struct Type<'a> {
     pub long: usize,
@@ -50,6 +52,7 @@ pub struct Type<'a> {
 #[derive(Drop)]
 pub enum Found {
     // It is the start tag of an element, or a run of data for 0, up to here.
+    // Kept: 0 for data (plainer): both are settled by the same steps, and the tables have a cell for each.
     Token(ElementNo, usize),
     // It is the end tag of an element, up to here.
     End(ElementNo, usize),
@@ -60,7 +63,8 @@ pub enum Found {
 // The element that the tag at `at` names.
 fn tagged(t: Type, d: &[u8], g: Tag, at: usize) -> Reading<ElementNo>
     requires { (1 ≤ g.size) × (g.size ≤ most_name_length) × (g.name + g.size ≤ length d.now) }
-    ensures numbered { (es : List Element) → Indexed t.entry.file.now es t.entry.elements.now t.entry.index.now →
+    ensures numbered { (es : List Element) →
+        Indexed t.entry.file.now es t.entry.elements.now t.entry.index.now →
         Numbered at result (number_of t.entry.file.now es d.now g.name g.size) }
     ensures ranged { Ranged result }
 {
@@ -71,8 +75,9 @@ fn tagged(t: Type, d: &[u8], g: Tag, at: usize) -> Reading<ElementNo>
     Ok(x)
 }
 
-// What the start tag at `at`, of the element x, gives, of which n attributes are kept, held against the list of x: 20, 22 or 21, or they are marked. Where
-// no element has a list and none is given there is nothing to hold.
+// What the start tag at `at`, of the element x, gives, of which n attributes are kept, held against the
+// list of x: 20, 22 or 21, or they are marked. Where no element has a list and none is given there is
+// nothing to hold.
 fn held(
     t: Type,
     d: &[u8],
@@ -82,8 +87,12 @@ fn held(
     at: usize,
     marks: &mut [u16; MARKS],
 ) -> Reading<()>
-    requires { (1 ≤ x.0) × (x.0 ≤ element_limit) × (n ≤ ATTCNT + 1) × GivenIn (length d.now) given.now n × (length t.file.now ≤ type_limit) × (length d.now ≤ document_limit) }
-    ensures { (xs : List Attribute) (ws : List document.Written) → ListAt t.entry.long t.entry.file.now t.entry.lists.now (LIST * (x.0 - 1)) xs → NamesDiffer t.entry.file.now xs → KeptAs given.now n ws →
+    requires { (1 ≤ x.0) × (x.0 ≤ element_limit) × (n ≤ ATTCNT + 1) ×
+        GivenIn (length d.now) given.now n × (length t.file.now ≤ type_limit) ×
+        (length d.now ≤ document_limit) }
+    ensures { (xs : List Attribute) (ws : List document.Written) →
+        ListAt t.entry.long t.entry.file.now t.entry.lists.now (LIST * (x.0 - 1)) xs →
+        NamesDiffer t.entry.file.now xs → KeptAs given.now n ws →
         Attributed t.entry.file.now xs d.now ws marks.new result (attributed t.entry.long t.entry.file.now xs d.now at ws) }
 {
     if n == 0 && t.lists.is_empty() {
@@ -92,8 +101,9 @@ fn held(
     attribute_marks::check(t.long, t.file, t.lists, d, x, given, n, at, marks)
 }
 
-// What stands at `at`, where the current element, of which so many are around it as `level` says, is e after the place u. Where it is a start tag, `marks` has the attributes that it gives;
-// else, and where it is refused, what that holds is not decided.
+// What stands at `at`, where the current element, of which so many are around it as `level` says, is e
+// after the place u. Where it is a start tag, `marks` has the attributes that it gives; else, and where it
+// is refused, what that holds is not decided.
 pub fn found_at(
     t: Type,
     classes: &[u8; 256],
@@ -107,12 +117,15 @@ pub fn found_at(
     given: &mut [u16; GIVEN],
     marks: &mut [u16; MARKS],
 ) -> Reading<Found>
-    requires { Classes classes.now × (t.long ≤ most_name_length) × (level ≤ TAGLVL) × (e.0 ≤ element_limit) × (u.0 ≤ GRPGTCNT) × (at < length d.now) × (length d.now ≤ document_limit) × (length t.file.now ≤ type_limit) × (line.since ≤ at) }
+    requires { Classes classes.now × (t.long ≤ most_name_length) × (level ≤ TAGLVL) ×
+        (e.0 ≤ element_limit) × (u.0 ≤ GRPGTCNT) × (at < length d.now) ×
+        (length d.now ≤ document_limit) × (length t.file.now ≤ type_limit) × (line.since ≤ at) }
     ensures onward { Onward (length d.now) at result }
     ensures finds { (es : List Element) → Indexed t.entry.file.now es t.entry.elements.now t.entry.index.now →
         Tables t.entry.file.now es t.entry.tables.rows.now t.entry.tables.places.now t.entry.tables.facts.now t.entry.tables.members.now →
         Lists t.entry.long t.entry.file.now es t.entry.lists.now →
-        (o : rules.Open) → Entered es t.entry.tables.members.now begun.now level e.0 u.0 o → (line.since ≡ 0 → is_fresh o ≡ true) →
+        (o : rules.Open) → Entered es t.entry.tables.members.now begun.now level e.0 u.0 o →
+        (line.since ≡ 0 → is_fresh o ≡ true) →
         Finds (settings t.entry.long t.entry.edition) t.entry.file.now es d.now (line_of line.since line.mark) o at result ×
         MarksAt (settings t.entry.long t.entry.edition) t.entry.file.now es d.now at result marks.new }
 {

@@ -1,6 +1,7 @@
 // Record ends: which bytes 13 are data in edition 2.
 //
-// Where the byte before `since` is a byte 13, it is the last of a run of data: it may turn out to be the last in its element, and is not in the events yet.
+// Where the byte before `since` is a byte 13, it is the last of a run of data: it may turn out to be the
+// last in its element, and is not in the events yet.
 #![tactic(auto)]
 
 ghost use Rattle.std.specs.Prelude.{◌≡◌, ℕ, ◌+◌, ◌-◌, ◌≤◌, ◌<◌, length};
@@ -18,7 +19,8 @@ const RE: u8 = b'\r';
 // The record start, byte 10.
 const RS: u8 = b'\n';
 
-// Where the last tag or data ended, and where the last byte 10 or 13 ended that was ignored; 0 where there is none yet.
+// Where the last tag or data ended, and where the last byte 10 or 13 ended that was ignored; 0 where there
+// is none yet.
 #[derive(Clone, Copy)]
 pub struct Line {
     pub since: usize,
@@ -26,8 +28,9 @@ pub struct Line {
 }
 
 impl Line {
-    // Whether the byte at `at`, which would be data, is a byte 13 that is ignored by what came before it. u is the last place taken in the current element.
-    // Where a place was taken though neither a tag nor data came, what it answers is not decided: no reading comes there.
+    // Whether the byte at `at`, which would be data, is a byte 13 that is ignored by what came before it. u
+    // is the last place taken in the current element. Where a place was taken though neither a tag nor data
+    // came, what it answers is not decided: no reading comes there.
     pub fn is_ignored(self, edition: usize, d: &[u8], at: usize, u: Place) -> bool
         requires { (at < length d.now) × (self.since ≤ at) }
         ensures { (long : ℕ) (o : rules.Open) → Since self.since u.0 o →
@@ -75,7 +78,8 @@ pub fn is_held(edition: usize, d: &[u8], since: usize) -> bool
     edition == 2 && since != 0 && d[since - 1] == RE
 }
 
-// Where the run of data or the tag up to `after` ends as it is shown: a byte 13 that may turn out to be the last in its element is not shown yet.
+// Where the run of data or the tag up to `after` ends as it is shown: a byte 13 that may turn out to be the
+// last in its element is not shown yet.
 pub fn shown_end(edition: usize, d: &[u8], after: usize) -> usize
     requires { after ≤ length d.now }
     ensures { result ≡ shown_end edition d.now after }
@@ -86,9 +90,10 @@ pub fn shown_end(edition: usize, d: &[u8], after: usize) -> usize
     after
 }
 
-// The run of data from `from` up to `since`, whose last byte is data after all: it goes over the event of the run without that byte, or behind n events where
-// there is none. It gives how many events there are. Where the run is empty, or the n events do not end with it so, what the buffers hold is not decided, but that
-// they keep their length.
+// The run of data from `from` up to `since`, whose last byte is data after all: it goes over the event of
+// the run without that byte, or behind n events where there is none. It gives how many events there are.
+// Where the run is empty, or the n events do not end with it so, what the buffers hold is not decided, but
+// that they keep their length.
 pub fn put_held(numbers: &mut [u32], bytes: &mut [u8], n: usize, from: usize, since: usize) -> usize
     requires { (n < 4294967296) × (from ≤ since) × (since < 4294967296) }
     ensures { PutsWhole numbers.old bytes.old n from since result numbers.new bytes.new }
@@ -100,8 +105,9 @@ pub fn put_held(numbers: &mut [u32], bytes: &mut [u8], n: usize, from: usize, si
     event_buffer::put_event(numbers, bytes, k, Kind::Data as u32, data, from, size, none)
 }
 
-// How many events there are behind the m that stand behind the ends which a token infers, n being those before these. Where no end came first, more of the element
-// follows the run of data that ended at `since`: if its last byte is held, it is data, and the run is put whole.
+// How many events there are behind the m that stand behind the ends which a token infers, n being those
+// before these. Where no end came first, more of the element follows the run of data that ended at `since`:
+// if its last byte is held, it is data, and the run is put whole.
 pub fn freed(
     edition: usize,
     d: &[u8],

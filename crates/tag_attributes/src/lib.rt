@@ -11,8 +11,8 @@ ghost use Rattle.tag_attributes.specs.Given.{WrittenFits, Keeps, kept_in, writte
 use layout::{ATTCNT, GIVEN, WRITTEN};
 use text::{Reading, Refusal};
 
-// An attribute as a tag gives it: where its name stands and how long that is, where the literal's opening quote stands, and how long the
-// value is.
+// An attribute as a tag gives it: where its name stands and how long that is, where the literal's opening
+// quote stands, and how long the value is.
 #[derive(Clone, Copy)]
 pub struct Written {
     pub name: usize,
@@ -68,6 +68,7 @@ pub fn specification_at(long: usize, classes: &[u8; 256], s: &[u8], i: usize) ->
     })
 }
 
+// Kept: numbers of 16 bits in an array that is lent, with their count beside (fixed: fixed memory, no heap).
 // The attribute is kept as the n-th of its tag, from 0, unless there are as many as can be told apart.
 pub fn keep(given: &mut [u16; GIVEN], n: usize, w: Written) -> usize
     requires { (n ≤ ATTCNT + 1) × WrittenFits w }

@@ -12,7 +12,8 @@ ghost use Rattle.tags.specs.Attributes.{specifications_on};
 use layout::GIVEN;
 use text::{Reading, Refusal};
 
-// A tag: where its name stands, how long that is, where the tag ends, and how many of the attributes that it gives are kept.
+// A tag: where its name stands, how long that is, where the tag ends, and how many of the attributes that
+// it gives are kept.
 #[derive(Clone, Copy)]
 pub struct Tag {
     pub name: usize,
@@ -21,7 +22,8 @@ pub struct Tag {
     pub given: usize,
 }
 
-// An end tag: name, separators, `>`, where the name begins at i. A name that is too long is refused before what follows it.
+// An end tag: name, separators, `>`, where the name begins at i. A name that is too long is refused before
+// what follows it.
 pub fn tag_at(long: usize, classes: &[u8; 256], s: &[u8], i: usize) -> Reading<Tag>
     requires { Classes classes.now × (i ≤ length s.now) }
     ensures { tag_of result ≡ tag long s.now i }
@@ -42,7 +44,8 @@ pub fn tag_at(long: usize, classes: &[u8; 256], s: &[u8], i: usize) -> Reading<T
     Err(Refusal::Malformed.at(j))
 }
 
-// What follows the name of a start tag, from i to e, and the separators behind it, which end at `first`: attributes, separators, `>`.
+// What follows the name of a start tag, from i to e, and the separators behind it, which end at `first`:
+// attributes, separators, `>`.
 fn attributes_at(
     long: usize,
     classes: &[u8; 256],
@@ -52,7 +55,8 @@ fn attributes_at(
     first: usize,
     given: &mut [u16; GIVEN],
 ) -> Reading<Tag>
-    requires { Classes classes.now × (i ≤ e) × (e ≤ first) × (first ≤ length s.now) × (length s.now ≤ document_limit) }
+    requires { Classes classes.now × (i ≤ e) × (e ≤ first) × (first ≤ length s.now) ×
+        (length s.now ≤ document_limit) }
     ensures { MeetsTag (length s.now) given.new result (specifications_on long (length s.now) s.now i e first []) }
 {
     let mut n = 0;
@@ -73,8 +77,8 @@ fn attributes_at(
     Err(Refusal::Malformed.at(j))
 }
 
-// A start tag: name, attributes, separators, `>`, where the name begins at i. What `given` holds behind the attributes that are kept, and where the tag is refused, is not
-// decided.
+// A start tag: name, attributes, separators, `>`, where the name begins at i. What `given` holds behind the
+// attributes that are kept, and where the tag is refused, is not decided.
 pub fn start_tag_at(
     long: usize,
     classes: &[u8; 256],
