@@ -1,6 +1,7 @@
 // The default of an attribute: `#REQUIRED`, `#IMPLIED` or a literal that fits the declared value.
 //
-// A default has two numbers: 0 `#REQUIRED`, 1 `#IMPLIED`, else where the value of the literal begins; and how long that value is.
+// A default has two numbers: 0 `#REQUIRED`, 1 `#IMPLIED`, else where the value of the literal begins; and how
+// long that value is.
 #![tactic(auto)]
 
 ghost use Rattle.std.specs.Prelude.{◌≡◌, List, ℕ, ◌+◌, ◌≤◌, ◌<◌, length};
@@ -86,7 +87,8 @@ fn word_at(s: &[u8], i: usize) -> Reading<Defaulted>
 // A literal, from its opening quote at i, for the declared value x.
 fn literal_at(long: usize, s: &[u8], x: usize, i: usize) -> Reading<Defaulted>
     requires { (1 ≤ i) × (i < length s.now) × (length s.now ≤ type_limit) }
-    ensures { ((y : rules.DeclaredValue) → DeclaredAs long s.now x y → default_of result ≡ default_literal long s.now y i) × DefaultFits (length s.now) i result }
+    ensures { ((y : rules.DeclaredValue) → DeclaredAs long s.now x y →
+        default_of result ≡ default_literal long s.now y i) × DefaultFits (length s.now) i result }
 {
     let e = literals::literal_end(s, i)?;
     let size = e - (i + 1);
@@ -102,7 +104,8 @@ fn literal_at(long: usize, s: &[u8], x: usize, i: usize) -> Reading<Defaulted>
 
 // Whether nothing parts the default at i from its declared value x, which ended at `from`: a group needs nothing between it and what follows.
 fn is_joined(x: usize, from: usize, i: usize) -> bool
-    ensures { (long : ℕ) (s : List ℕ) (y : rules.DeclaredValue) → DeclaredAs long s x y → result ≡ is_joined y from i }
+    ensures { (long : ℕ) (s : List ℕ) (y : rules.DeclaredValue) → DeclaredAs long s x y →
+        result ≡ is_joined y from i }
 {
     match DeclaredValue::from(x) {
         DeclaredValue::Group(_) => false,
@@ -114,7 +117,8 @@ fn is_joined(x: usize, from: usize, i: usize) -> bool
 // Kept: x is any number, and no `DeclaredValue` (fixed: docs/PROMISES.md names `default_at`).
 pub fn default_at(long: usize, s: &[u8], x: usize, from: usize, i: usize) -> Reading<Defaulted>
     requires { (1 ≤ i) × (i ≤ length s.now) × (length s.now ≤ type_limit) }
-    ensures { ((y : rules.DeclaredValue) → DeclaredAs long s.now x y → default_of result ≡ default_value long s.now y from i) × DefaultFits (length s.now) i result }
+    ensures { ((y : rules.DeclaredValue) → DeclaredAs long s.now x y →
+        default_of result ≡ default_value long s.now y from i) × DefaultFits (length s.now) i result }
 {
     let b = text::byte(s, i);
     if b == b'#' {

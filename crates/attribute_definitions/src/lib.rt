@@ -10,7 +10,8 @@ ghost use Rattle.rules.specs.TypeFile.{tokens_of, attribute_name, value_word, de
 ghost use Rattle.text.specs.Refusal.{reached};
 ghost use Rattle.name_tokens.specs.Tokens.{parts_of};
 ghost use Rattle.list_table.specs.Lists.{ListAt};
-ghost use Rattle.attribute_definitions.specs.Definition.{NameFits, word_of, WordFits, MeetsValue, ValueFits, MeetsDefinition, DefinitionFits};
+ghost use Rattle.attribute_definitions.specs.Definition.{NameFits, word_of, WordFits, MeetsValue, ValueFits};
+ghost use Rattle.attribute_definitions.specs.Definition.{MeetsDefinition, DefinitionFits};
 
 use attribute_values::DeclaredValue;
 use layout::{ATTCNT, ElementNo, LIST, TOKENS};
@@ -64,6 +65,8 @@ fn name_at(
 }
 
 // A word as declared value, in a list that has m tokens so far.
+// Kept: a test a word (plainer: a loop over three words would need a table of words and values, and the two
+// tests of each).
 fn word_at(long: usize, s: &[u8], i: usize, m: usize) -> Reading<Declared>
     requires { (i ≤ length s.now) × (length s.now ≤ type_limit) }
     ensures { (word_of result ≡ value_word long s.now i) × WordFits (length s.now) i m result }

@@ -1,6 +1,7 @@
 // Attribute definition lists: which element one is for, its definitions, and the table of all of them.
 //
 // `heads` has for each element where its name ends in its list, or 0 where it has none.
+// Kept: 0 for none (fixed: no heap, fixed memory: callers lend numbers of 16 bits).
 #![tactic(auto)]
 
 ghost use Rattle.std.specs.List.{list_any};
@@ -13,7 +14,8 @@ ghost use Rattle.layout.specs.Sizes.{LIST, LISTS};
 ghost use Rattle.element_names.specs.Names.{Recorded, name_at};
 ghost use Rattle.list_table.specs.Lists.{ListAt};
 ghost use Rattle.list_definitions.specs.ListAs.{ListIn};
-ghost use Rattle.attribute_lists.specs.Listed.{Headed, is_head, any_in, number_of, listed_of, ListedFits, MeetsLists, Again};
+ghost use Rattle.attribute_lists.specs.Listed.{Headed, is_head, any_in, number_of, listed_of, ListedFits};
+ghost use Rattle.attribute_lists.specs.Listed.{MeetsLists, Again};
 
 use layout::{ELEMENTS, ElementNo, LIST, RECORD, RECORDS};
 use text::{Reading, Refusal};
@@ -46,7 +48,9 @@ fn element_of(
     size: usize,
 ) -> Option<ElementNo>
     requires { (count ≤ element_limit) × (at < 4294967296) × (size < 4294967296) }
-    ensures { ((es : List rules.Element) → length es ≡ count → Recorded elements.now es → number_of result ≡ declared_from 1 s.now es at size) × IfSome result (λ e. (1 ≤ e.0) × (e.0 ≤ count)) }
+    ensures { ((es : List rules.Element) → length es ≡ count → Recorded elements.now es →
+        number_of result ≡ declared_from 1 s.now es at size)
+        × IfSome result (λ e. (1 ≤ e.0) × (e.0 ≤ count)) }
 {
     for k in 0..count {
         if is_same(s, elements, k, at, size) {

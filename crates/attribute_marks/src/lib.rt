@@ -2,6 +2,8 @@
 //
 // `lists` is that of the crate list_table, `given` has the attributes of a tag as they are read (crate tag_attributes). `marks` has for each attribute of the element where its written value begins in the document, and how
 // long it is; 0 where it is not written.
+// Kept: 0 for none (fixed: no heap, fixed memory: callers lend numbers of 16 bits, and attribute_events reads
+// them).
 #![tactic(auto)]
 
 ghost use Rattle.std.specs.Prelude.{◌≡◌, true, false, List, ℕ, ◌+◌, ◌*◌, ◌-◌, ◌≤◌, ◌<◌, length, get_or};
@@ -31,7 +33,8 @@ fn clear(marks: &mut [u16; MARKS], n: usize)
     }
 }
 
-// An attribute of the element e as a tag gives it: 20 if it is not declared or marked already, 22 if its value does not fit.
+// An attribute of the element e as a tag gives it: 20 if it is not declared or marked already, 22 if its
+// value does not fit.
 fn mark(
     long: usize,
     s: &[u8],
@@ -64,8 +67,8 @@ fn mark(
     Err(Refusal::Value)
 }
 
-// The n attributes that a tag gives: the first 20, else the first 22, else they are marked. A 20 comes before each 22, so that the first misfit is only remembered: where its
-// literal begins.
+// The n attributes that a tag gives: the first 20, else the first 22, else they are marked. A 20 comes before
+// each 22, so that the first misfit is only remembered: where its literal begins.
 fn marked(
     long: usize,
     s: &[u8],
@@ -110,8 +113,8 @@ fn is_missing(lists: &[u16], e: ElementNo, n: usize, marks: &[u16; MARKS]) -> bo
     false
 }
 
-// The start tag at `at`, which was read, of the element e, which gives g attributes, of which so many are kept: 20, 22 or 21, else they are marked. Where it is refused, what
-// `marks` holds is not decided.
+// The start tag at `at`, which was read, of the element e, which gives g attributes, of which so many are
+// kept: 20, 22 or 21, else they are marked. Where it is refused, what `marks` holds is not decided.
 pub fn check(
     long: usize,
     s: &[u8],

@@ -1,6 +1,7 @@
 // The value of an attribute: which part of which text it is, and whether it fits what is declared.
 //
-// A declared value has a number: 0 CDATA, 1 NUMBER, 2 NAME, else where the "(" of a name token group stands in the type file.
+// A declared value has a number: 0 CDATA, 1 NUMBER, 2 NAME, else where the "(" of a name token group stands
+// in the type file.
 #![tactic(auto)]
 
 ghost use Rattle.std.specs.List.{list_all};
@@ -153,7 +154,8 @@ fn is_in_group(s: &[u8], at: usize, v: &[u8]) -> bool
 }
 
 // Whether the value fits the declared value x of the type file s. Where that is none's the answer is not decided.
-// Kept: x is any number, and no `DeclaredValue` (fixed: docs/PROMISES.md names `fits`, and the table of lists holds numbers).
+// Kept: x is any number, and no `DeclaredValue` (fixed: docs/PROMISES.md names `fits`, and the table of lists
+// holds numbers).
 pub fn fits(long: usize, s: &[u8], x: usize, v: &[u8]) -> bool
     requires { length s.now ≤ type_limit }
     ensures { (y : rules.DeclaredValue) → DeclaredAs long s.now x y → result ≡ rules.fits long s.now y v.now }

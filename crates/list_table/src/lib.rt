@@ -7,7 +7,8 @@
 // Whatever the table holds, each function ends and stays within it.
 #![tactic(auto)]
 
-ghost use Rattle.std.specs.Prelude.{◌≡◌, List, [], ◌∷◌, ◌++◌, ℕ, ◌+◌, ◌*◌, ◌-◌, ◌≤◌, ◌<◌, length, get_or, eqb, IfSome};
+ghost use Rattle.std.specs.Prelude.{◌≡◌, List, [], ◌∷◌, ◌++◌, ℕ, ◌+◌, ◌*◌, ◌-◌, ◌≤◌, ◌<◌, length, get_or};
+ghost use Rattle.std.specs.Prelude.{eqb, IfSome};
 ghost use Rattle.rules.specs.Bytes.{ATTCNT, element_limit};
 ghost use Rattle.rules.specs.Attributes.{Attribute, attribute_of, needs_tag};
 ghost use Rattle.layout.specs.Sizes.{ATTRIBUTE, LIST, LISTS};
@@ -16,6 +17,8 @@ ghost use Rattle.list_table.specs.Lists.{row_in, Short, RowOf, is_named, number_
 use layout::{ATTCNT, ATTRIBUTE, AttributeNo, ElementNo, LIST};
 
 // What is kept of an attribute.
+// Kept: the numbers of the declared value and of the default, and no enums (fixed: the table holds numbers of
+// 16 bits, and the rows of attribute_records give these numbers to C).
 #[derive(Clone, Copy, Debug, PartialEq, Eq)]
 pub struct Row {
     pub name: usize,
@@ -145,7 +148,9 @@ pub fn find(
     size: usize,
 ) -> Option<AttributeNo>
     requires { (1 ≤ e.0) × (e.0 ≤ element_limit) × (at + size ≤ length t.now) × (length t.now < 4294967296) }
-    ensures { ((long : ℕ) (xs : List Attribute) → ListAt long s.now lists.now (LIST * (e.0 - 1)) xs → number_of result ≡ attribute_of s.now xs t.now at size) × IfSome result (λ a. (1 ≤ a.0) × (a.0 ≤ ATTCNT)) }
+    ensures { ((long : ℕ) (xs : List Attribute) → ListAt long s.now lists.now (LIST * (e.0 - 1)) xs →
+        number_of result ≡ attribute_of s.now xs t.now at size)
+        × IfSome result (λ a. (1 ≤ a.0) × (a.0 ≤ ATTCNT)) }
 {
     for k in 0..count(lists, e) {
         if is_named(s, attribute(lists, e, k), t, at, size) {

@@ -1,6 +1,10 @@
 // Name token groups: tokens joined by one connector, each for the first time in its list.
 //
 // `seen` has the tokens of a list so far: of each where it stands and how long it is.
+//
+// Kept: two numbers of 16 bits a token in one array (fixed: no heap, fixed memory).
+// Kept: how many of them are tokens is handed on beside it (plainer: a refusal leaves `seen` undecided and
+// the count as it was, so that a struct of both would say less than a count in what was read).
 #![tactic(auto)]
 
 ghost use Rattle.std.specs.Prelude.{◌≡◌, ◌&&◌, ◌||◌, List, [], ◌∷◌, ◌++◌, ◌+◌, ◌≤◌, ◌<◌, ◌*◌, length, eqb};
@@ -78,6 +82,7 @@ fn token_at(
 }
 
 // Whether b joins tokens where c joined those before, 0 for none.
+// Kept: 0 for none, and no Option (fixed: `group_tokens` of the rules, whose argument c is, has 0 for none).
 fn joins(c: u8, b: u8) -> bool
     ensures { result ≡ (is_token_connector b && (eqb c 0 || eqb c b)) }
 {
