@@ -23,6 +23,9 @@ use text::{Reading, Refusal};
 // How many events the document d has under a type. Its events go to a buffer of numbers and to one of bytes, each as far as they fit. What a buffer holds
 // that is too small for all of them, or where the document is refused, is not decided; it keeps its length, and the reader zeroes it.
 //
+// Kept: n beside `numbers` and `bytes`: (plainer) n counts on where an event no longer fits, so that it is no length of theirs, and each of the two may be too short
+// alone.
+//
 // The steps of a start tag or of data stand here, and not in a function of their own: such a function has a state of its own, and copies the array of
 // the open elements at each token.
 pub fn events_of(

@@ -137,7 +137,9 @@ impl OpenElements {
         }
     }
 
-    // The place is taken in the current element: its marks are those after this place.
+    // The place is taken in the current element: its marks are those after this place. It stands in both of its callers: where it is called the state is copied, which takes
+    // the reader a sixth more instructions.
+    #[inline(always)]
     pub fn take(mut self, t: TypeTables, begun: &mut [u32; BEGUN], place: Place) -> Self
         requires { Ranged self × (place.0 ≤ GRPGTCNT) }
         ensures { Taking t.entry.rows.now t.entry.members.now begun.old place.0 self result begun.new }
@@ -183,12 +185,7 @@ impl OpenElements {
     }
 
     // The required place is taken in the current element, which is kept, and its element opened in it.
-    pub fn start_required(
-        self,
-        t: TypeTables,
-        begun: &mut [u32; BEGUN],
-        element: ElementNo,
-    ) -> Self
+    pub fn start_required(self, t: TypeTables, begun: &mut [u32; BEGUN], element: ElementNo) -> Self
         requires { Ranged self × (self.count < TAGLVL) × (element.0 ≤ element_limit) }
         ensures { Starting t.entry.rows.now t.entry.members.now begun.old element.0 self result begun.new }
     {

@@ -15,6 +15,9 @@
 //
 // Whatever the tables hold, each function ends and stays within them. Where they are no type's, what `fitting`, `startable` and `inferable`
 // answer is not decided, but that a place is at most 96 and an element at most 64.
+//
+// Kept: `Place(0)` and `ElementNo(0)` for none: (plainer) the tables have 0 there, and so have the rules (`fits` of their decisions, `required_place`, `inferable`),
+// which the contracts equate with the answers as they stand.
 #![tactic(auto)]
 
 ghost use Rattle.std.specs.Prelude.{◌≡◌, Bool, List, [], ℕ, ◌+◌, ◌*◌, ◌%◌, ◌≤◌, ◌<◌, length, get_or, leb};

@@ -3,6 +3,8 @@
 //
 // `t` are the tables of the type, or `facts` the one of them that is asked (crate type_tables). x is the element that starts, or 0 for data.
 // Where the tables are no type's, an answer is not decided, but for the range that its contract has.
+//
+// Kept: 0 for no chain and `Place(0)` for no place: (plainer) so the rules have it (`chained`, `place_of` in specs/Asks), and `x.0 == 0` for data is a name's number.
 #![tactic(auto)]
 
 ghost use Rattle.std.specs.Prelude.{◌≡◌, Bool, true, false, ◌&&◌, List, [], ℕ, ◌≤◌, ◌<◌, length, eqb, leb};
