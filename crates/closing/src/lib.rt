@@ -1,9 +1,9 @@
 // How an end tag and the document's end close open elements.
 //
-// `facts` is a table of the type (crate type_tables). Whether an open element is complete is kept with it. n events stand in the
-// buffers before.
-// Where the table is no type's, or the state stands in none, what is brought is not decided, but that the state's numbers are in range, that so many
-// events were put as are counted, and that the number of a refusal is below 20.
+// `facts` is a table of the type (crate type_tables). Whether an open element is complete is kept with it. n
+// events stand in the buffers before. Where the table is no type's, or the state stands in none, what is
+// brought is not decided, but that the state's numbers are in range, that so many events were put as are
+// counted, and that the number of a refusal is below 20.
 #![tactic(auto)]
 
 ghost use Rattle.std.specs.Prelude.{◌+◌, ◌≤◌, ◌<◌};
@@ -17,7 +17,8 @@ use layout::{ElementNo, FACTS, Place};
 use open_elements::{OpenElements, Outcome};
 use text::Refusal;
 
-// The end tag of the element x, from `at` to `after`. Where it is refused nothing decides what the buffers hold: nobody reads them.
+// The end tag of the element x, from `at` to `after`. Where it is refused nothing decides what the buffers
+// hold: nobody reads them.
 pub fn end_tag(
     facts: &[u8; FACTS],
     state: OpenElements,
@@ -28,7 +29,8 @@ pub fn end_tag(
     numbers: &mut [u32],
     bytes: &mut [u8],
 ) -> Result<Outcome, Refusal>
-    requires { Ranged state × (at ≤ after) × (after < 4294967296) × (x.0 ≤ element_limit) × (n + TOKEN_EVENTS < 4294967296) }
+    requires { Ranged state × (at ≤ after) × (after < 4294967296) × (x.0 ≤ element_limit) ×
+        (n + TOKEN_EVENTS < 4294967296) }
     ensures { Tagged facts.now x.0 at after n state numbers.old bytes.old result numbers.new bytes.new }
 {
     if !state.is_open(x) {
@@ -59,8 +61,8 @@ pub fn end_tag(
     })
 }
 
-// The document's end, at its length. The state is not used any more: nothing decides it, but that its numbers are in range. Where the
-// end is refused, nor are the buffers decided.
+// The document's end, at its length. The state is not used any more: nothing decides it, but that its numbers
+// are in range. Where the end is refused, nor are the buffers decided.
 pub fn finish(
     facts: &[u8; FACTS],
     state: OpenElements,

@@ -1,7 +1,7 @@
 // The events of a document under a type whose tables are filled.
 //
-// `t` is what the document is read under (crate pieces), `classes` is the table of delimiters. Where the tables are no type's, neither the answer nor what the buffers hold
-// is decided; the loop ends all the same.
+// `t` is what the document is read under (crate pieces), `classes` is the table of delimiters. Where the
+// tables are no type's, neither the answer nor what the buffers hold is decided; the loop ends all the same.
 #![tactic(auto)]
 
 ghost use Rattle.std.specs.Prelude.{List, ◌≤◌, length};
@@ -20,14 +20,15 @@ use pieces::{Found, Type};
 use record_ends::Line;
 use text::{Reading, Refusal};
 
-// How many events the document d has under a type. Its events go to a buffer of numbers and to one of bytes, each as far as they fit. What a buffer holds
-// that is too small for all of them, or where the document is refused, is not decided; it keeps its length, and the reader zeroes it.
+// How many events the document d has under a type. Its events go to a buffer of numbers and to one of bytes,
+// each as far as they fit. What a buffer holds that is too small for all of them, or where the document is
+// refused, is not decided; it keeps its length, and the reader zeroes it.
 //
-// Kept: n beside `numbers` and `bytes`: (plainer) n counts on where an event no longer fits, so that it is no length of theirs, and each of the two may be too short
-// alone.
+// Kept: n beside `numbers` and `bytes`: (plainer) n counts on where an event no longer fits, so that it is no
+// length of theirs, and each of the two may be too short alone.
 //
-// The steps of a start tag or of data stand here, and not in a function of their own: such a function has a state of its own, and copies the array of
-// the open elements at each token.
+// The steps of a start tag or of data stand here, and not in a function of their own: such a function has a
+// state of its own, and copies the array of the open elements at each token.
 pub fn events_of(
     t: Type,
     classes: &[u8; 256],
@@ -35,11 +36,14 @@ pub fn events_of(
     numbers: &mut [u32],
     bytes: &mut [u8],
 ) -> Reading<usize>
-    requires { Classes classes.now × (t.long ≤ most_name_length) × (length d.now ≤ document_limit) × (length t.file.now ≤ type_limit) }
+    requires { Classes classes.now × (t.long ≤ most_name_length) × (length d.now ≤ document_limit) ×
+        (length t.file.now ≤ type_limit) }
     ensures { (es : List Element) → Indexed t.entry.file.now es t.entry.elements.now t.entry.index.now →
-        Tables t.entry.file.now es t.entry.tables.rows.now t.entry.tables.places.now t.entry.tables.facts.now t.entry.tables.members.now →
+        Tables t.entry.file.now es t.entry.tables.rows.now t.entry.tables.places.now t.entry.tables.facts.now
+        t.entry.tables.members.now →
         Lists t.entry.long t.entry.file.now es t.entry.lists.now →
-        EventsOf (settings t.entry.long t.entry.edition) t.entry.file.now es d.now numbers.old numbers.new bytes.old bytes.new result }
+        EventsOf (settings t.entry.long t.entry.edition) t.entry.file.now es d.now numbers.old numbers.new
+        bytes.old bytes.new result }
 {
     let mut at = 0;
     let mut n = 0;
@@ -63,14 +67,16 @@ pub fn events_of(
                 if ways::is_over(o) {
                     return Err(Refusal::AfterEnd.at(at));
                 }
-                // Steps 1 to 3: ends are inferred until x fits, or starts can be inferred before it, or it is stuck.
+                // Steps 1 to 3: ends are inferred until x fits, or starts can be inferred before it, or it is
+                // stuck.
                 let f = inferring::ends(t.tables, &begun, o, x, at, n, numbers, bytes);
                 let found = f.found;
                 let starts = ways::starts_of(found);
                 let mut m = f.events;
                 o = f.open;
-                // A run of data that is held is put whole where more of its element follows. Whether starts are inferred is asked first: with one call for both the compiler
-                // takes 7 % more instructions.
+                // A run of data that is held is put whole where more of its element follows. Whether starts
+                // are inferred is asked first: with one call for both the compiler takes 7 % more
+                // instructions.
                 if starts == 0 {
                     m = record_ends::freed(t.edition, d, from, line.since, n, m, numbers, bytes);
                 } else {
@@ -87,12 +93,14 @@ pub fn events_of(
                     o = inferring::infer_start(t.tables, &mut begun, o, at, m, numbers, bytes);
                     m += 1;
                 }
-                // The attribute events of a start tag come before its own. A type without attributes is told here, where it costs least.
+                // The attribute events of a start tag come before its own. A type without attributes is told
+                // here, where it costs least.
                 if t.lists.len() != 0 {
                     m = attribute_events::put_written(t.lists, &marks, x, m, numbers, bytes);
                 }
                 let shown = record_ends::shown_end(t.edition, d, after);
-                // The token takes its place, and its events are put; where it is stuck, or no room is left for its element, it is refused.
+                // The token takes its place, and its events are put; where it is stuck, or no room is left
+                // for its element, it is refused.
                 match placing::placed(
                     t.tables, &mut begun, o, found, x, at, shown, m, numbers, bytes,
                 ) {

@@ -1,9 +1,10 @@
-// The ends and starts that are inferred before a start tag or a run of data, their events put behind those before.
+// The ends and starts that are inferred before a start tag or a run of data, their events put behind those
+// before.
 //
 // `t` are the tables of the type (crate type_tables). x is the element that starts, or 0 for data. n is how
-// many events there are so far; they are put to `numbers` and `bytes` (crate event_buffer).
-// Where the tables are no type's, or the state stands in none, which ends and starts are inferred is not decided, but that the state's numbers are
-// in range and that so many events were put as are counted.
+// many events there are so far; they are put to `numbers` and `bytes` (crate event_buffer). Where the tables
+// are no type's, or the state stands in none, which ends and starts are inferred is not decided, but that the
+// state's numbers are in range and that so many events were put as are counted.
 #![tactic(auto)]
 
 ghost use Rattle.std.specs.Prelude.{◌+◌, ◌≤◌, ◌<◌};
@@ -18,8 +19,8 @@ use open_elements::OpenElements;
 use type_tables::TypeTables;
 use ways::Way;
 
-// Where no more ends are inferred: the state come to, what its current element has to say to the token, and how many events there
-// are.
+// Where no more ends are inferred: the state come to, what its current element has to say to the token, and
+// how many events there are.
 #[derive(Drop)]
 pub struct Stop {
     pub open: OpenElements,
@@ -27,7 +28,8 @@ pub struct Stop {
     pub events: usize,
 }
 
-// Step 3, again and again: ends are inferred until x fits or starts can be inferred before it, or it is stuck.
+// Step 3, again and again: ends are inferred until x fits or starts can be inferred before it, or it is
+// stuck.
 pub fn ends(
     t: TypeTables,
     begun: &[u32; BEGUN],
@@ -39,7 +41,8 @@ pub fn ends(
     bytes: &mut [u8],
 ) -> Stop
     requires { Ranged state × (x.0 ≤ element_limit) × (at < 4294967296) × (n + TOKEN_EVENTS < 4294967296) }
-    ensures { Stops t.entry.rows.now t.entry.places.now t.entry.facts.now t.entry.members.now begun.now x.0 at n state numbers.old bytes.old result numbers.new bytes.new }
+    ensures { Stops t.entry.rows.now t.entry.places.now t.entry.facts.now t.entry.members.now begun.now x.0 at
+        n state numbers.old bytes.old result numbers.new bytes.new }
 {
     let mut o = state;
     let mut m = n;
@@ -87,7 +90,8 @@ pub fn infer_start(
     bytes: &mut [u8],
 ) -> OpenElements
     requires { Ranged state × (state.count < TAGLVL) × (at < 4294967296) × (n < 4294967296) }
-    ensures { InfersStart t.entry.rows.now t.entry.places.now t.entry.facts.now t.entry.members.now begun.old at n state numbers.old bytes.old result begun.new numbers.new bytes.new }
+    ensures { InfersStart t.entry.rows.now t.entry.places.now t.entry.facts.now t.entry.members.now begun.old
+        at n state numbers.old bytes.old result begun.new numbers.new bytes.new }
 {
     let e = state.element;
     let q = state.required;

@@ -1,2 +1,3 @@
-// At every moment of a reading: what the open elements of the program are beside the state of the rules. No code.
+// At every moment of a reading: what the open elements of the program are beside the state of the rules. No
+// code.
 #![tactic(auto)]

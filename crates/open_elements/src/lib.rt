@@ -12,8 +12,9 @@ ghost use Rattle.open_elements.specs.Stands.{entry, fresh, opening, ended, bare,
 use layout::{BEGUN, ElementNo, GRPGTCNT, Place, RAISE, ROWS, TAGLVL};
 use type_tables::TypeTables;
 
-// An open element, the place that was taken last in it, or 0, and its marks: whether its content is complete there, and
-// the place that is required, or 0. Each number is kept in a byte: `of` alone puts them there, and the methods alone read them.
+// An open element, the place that was taken last in it, or 0, and its marks: whether its content is complete
+// there, and the place that is required, or 0. Each number is kept in a byte: `of` alone puts them there, and
+// the methods alone read them.
 #[derive(Clone, Copy)]
 pub struct Entry {
     pub element: u8,
@@ -22,9 +23,10 @@ pub struct Entry {
     pub required: u8,
 }
 
-// The state from token to token: what lies around the current element, the outermost first: the document itself, then the open
-// elements down to its parent; how many are open; the current element, the place that was taken last in it and its marks. Where
-// nothing is open the current element is the document itself (element 0).
+// The state from token to token: what lies around the current element, the outermost first: the document
+// itself, then the open elements down to its parent; how many are open; the current element, the place that
+// was taken last in it and its marks. Where nothing is open the current element is the document itself
+// (element 0).
 //
 // A method that reaches into the array copies it to a local and puts it back: so it stays in one place.
 #[derive(Clone, Copy)]
@@ -51,8 +53,8 @@ struct Marks {
     required: Place,
 }
 
-// The place as the event of a start has it, which took it in this parent: the document itself stands in no model, so that the document element
-// has 0.
+// The place as the event of a start has it, which took it in this parent: the document itself stands in no
+// model, so that the document element has 0.
 pub fn place_shown(parent: ElementNo, place: Place) -> Place
     requires { place.0 ≤ GRPGTCNT }
     ensures { (result.0 ≡ shown parent.0 place.0) × (result.0 ≤ GRPGTCNT) }
@@ -63,8 +65,9 @@ pub fn place_shown(parent: ElementNo, place: Place) -> Place
     place
 }
 
-// The marks of an element whose model has an "&", where the row has these and the groups around the place answer m (`take` of and_groups): the row's, if no
-// group lacks a member; else the content is not complete, and m is required.
+// The marks of an element whose model has an "&", where the row has these and the groups around the place
+// answer m (`take` of and_groups): the row's, if no group lacks a member; else the content is not complete,
+// and m is required.
 fn weighed(m: Option<Place>, complete: bool, kept: usize) -> Marks
     requires { IfSome m (λ (x : Place). x.0 ≤ GRPGTCNT) }
     ensures { Weighs (answer_of m) complete kept result.complete result.required.0 }
@@ -81,7 +84,8 @@ fn weighed(m: Option<Place>, complete: bool, kept: usize) -> Marks
     }
 }
 
-// The place that is kept higher by `RAISE`, or 0. Of a number that is not kept so the answer is not decided, but that it is at most 96.
+// The place that is kept higher by `RAISE`, or 0. Of a number that is not kept so the answer is not decided,
+// but that it is at most 96.
 fn lowered(kept: usize) -> Place
     ensures { (result.0 ≤ GRPGTCNT) × (GRPGTCNT < kept → kept ≤ RAISE + GRPGTCNT → result.0 ≡ kept - RAISE) }
 {
@@ -137,8 +141,8 @@ impl OpenElements {
         }
     }
 
-    // The place is taken in the current element: its marks are those after this place. It stands in both of its callers: where it is called the state is copied, which takes
-    // the reader a sixth more instructions.
+    // The place is taken in the current element: its marks are those after this place. It stands in both of
+    // its callers: where it is called the state is copied, which takes the reader a sixth more instructions.
     #[inline(always)]
     pub fn take(mut self, t: TypeTables, begun: &mut [u32; BEGUN], place: Place) -> Self
         requires { Ranged self × (place.0 ≤ GRPGTCNT) }

@@ -1,10 +1,12 @@
-// How a start tag or a run of data takes its place in the current element, its events put behind those before.
+// How a start tag or a run of data takes its place in the current element, its events put behind those
+// before.
 //
 // `t` are the tables of the type (crate type_tables). x is the element that starts, or 0 for data. n is how
-// many events there are so far; they are put to `numbers` and `bytes` (crate event_buffer). A start tag ends at `shown`, and data is shown up to there: a byte 13 that
-// ends a run may turn out to be ignored, and is then no part of its event.
-// Where the tables are no type's, or the state stands in none, what a token brings is not decided, but that the state's numbers are in range,
-// that so many events were put as are counted, and that the number of a refusal is below 20.
+// many events there are so far; they are put to `numbers` and `bytes` (crate event_buffer). A start tag ends
+// at `shown`, and data is shown up to there: a byte 13 that ends a run may turn out to be ignored, and is
+// then no part of its event. Where the tables are no type's, or the state stands in none, what a token brings
+// is not decided, but that the state's numbers are in range, that so many events were put as are counted, and
+// that the number of a refusal is below 20.
 #![tactic(auto)]
 
 ghost use Rattle.std.specs.Prelude.{◌+◌, ◌≤◌, ◌<◌};
@@ -20,7 +22,8 @@ use text::Refusal;
 use type_tables::TypeTables;
 use ways::Way;
 
-// The events of a run of data, none where no byte of it is shown, or of an element x, which took this place: the end of an EMPTY element stands behind its tag.
+// The events of a run of data, none where no byte of it is shown, or of an element x, which took this place:
+// the end of an EMPTY element stands behind its tag.
 fn put_written(
     facts: &[u8; FACTS],
     x: ElementNo,
@@ -31,7 +34,8 @@ fn put_written(
     numbers: &mut [u32],
     bytes: &mut [u8],
 ) -> usize
-    requires { (x.0 ≤ element_limit) × (taken.0 ≤ GRPGTCNT) × (at ≤ shown) × (shown < 4294967296) × (n + 2 < 4294967296) }
+    requires { (x.0 ≤ element_limit) × (taken.0 ≤ GRPGTCNT) × (at ≤ shown) × (shown < 4294967296) ×
+        (n + 2 < 4294967296) }
     ensures { Writes facts.now x.0 taken.0 at shown n numbers.old bytes.old result numbers.new bytes.new }
 {
     let none = Place(0);
@@ -66,7 +70,8 @@ fn put_written(
     event_buffer::put_event(numbers, bytes, m, Kind::EmptyEnd as u32, x, shown, 0, none)
 }
 
-// The token takes its place by what was found, and its events are put; an element with a model is left for the caller to open.
+// The token takes its place by what was found, and its events are put; an element with a model is left for
+// the caller to open.
 pub fn placed(
     t: TypeTables,
     begun: &mut [u32; BEGUN],
@@ -79,8 +84,10 @@ pub fn placed(
     numbers: &mut [u32],
     bytes: &mut [u8],
 ) -> Result<Outcome, Refusal>
-    requires { Ranged state × (fit_of found ≤ GRPGTCNT) × (x.0 ≤ element_limit) × (at ≤ shown) × (shown < 4294967296) × (n + 2 < 4294967296) }
-    ensures { Placed t.entry.rows.now t.entry.places.now t.entry.facts.now t.entry.members.now begun.old found x.0 at shown n state numbers.old bytes.old result begun.new numbers.new bytes.new }
+    requires { Ranged state × (fit_of found ≤ GRPGTCNT) × (x.0 ≤ element_limit) × (at ≤ shown) ×
+        (shown < 4294967296) × (n + 2 < 4294967296) }
+    ensures { Placed t.entry.rows.now t.entry.places.now t.entry.facts.now t.entry.members.now begun.old found
+        x.0 at shown n state numbers.old bytes.old result begun.new numbers.new bytes.new }
 {
     let e = state.element;
     let p = ways::place_of(t, e, found, x);

@@ -1,23 +1,26 @@
 // What the document reader asks of an accepted type, kept in tables.
 //
-// Elements have the numbers 1 to 64, in declaration order; 0 stands for the document itself, whose model is the one
-// place of the document element. A name is an element's number, or 0 for `#PCDATA`.
+// Elements have the numbers 1 to 64, in declaration order; 0 stands for the document itself, whose model is
+// the one place of the document element. A name is an element's number, or 0 for `#PCDATA`.
 //
-// `rows`: for each element `POSITIONS` rows of `ROW` numbers. Row 0 is the start, row u is after the place u. The bits of the
-// numbers before `REQUIRED` say, bit 0 whether the content is complete, bit p whether the place p may come next. That number is the required
-// place, or 0. An EMPTY element's content is complete at its start.
+// `rows`: for each element `POSITIONS` rows of `ROW` numbers. Row 0 is the start, row u is after the place u.
+// The bits of the numbers before `REQUIRED` say, bit 0 whether the content is complete, bit p whether the
+// place p may come next. That number is the required place, or 0. An EMPTY element's content is complete at
+// its start.
 //
-// `places`: for each element `POSITIONS` pairs. Of the place p: what it names (an element, `PCDATA`, 0 if that is not
-// declared), and the next smaller place of the same name, or 0.
+// `places`: for each element `POSITIONS` pairs. Of the place p: what it names (an element, `PCDATA`, 0 if
+// that is not declared), and the next smaller place of the same name, or 0.
 //
-// `facts`: for each element `FACT` numbers. Number x is the largest place of the name x, or 0. The last three are 1
-// where the start may be omitted, the end may be omitted, and the content is a model.
+// `facts`: for each element `FACT` numbers. Number x is the largest place of the name x, or 0. The last three
+// are 1 where the start may be omitted, the end may be omitted, and the content is a model.
 //
-// Whatever the tables hold, each function ends and stays within them. Where they are no type's, what `fitting`, `startable` and `inferable`
-// answer is not decided, but that a place is at most 96 and an element at most 64.
+// Whatever the tables hold, each function ends and stays within them. Where they are no type's, what
+// `fitting`, `startable` and `inferable` answer is not decided, but that a place is at most 96 and an element
+// at most 64.
 //
-// Kept: `Place(0)` and `ElementNo(0)` for none: (plainer) the tables have 0 there, and so have the rules (`fits` of their decisions, `required_place`, `inferable`),
-// which the contracts equate with the answers as they stand.
+// Kept: `Place(0)` and `ElementNo(0)` for none: (plainer) the tables have 0 there, and so have the rules
+// (`fits` of their decisions, `required_place`, `inferable`), which the contracts equate with the answers as
+// they stand.
 #![tactic(auto)]
 
 ghost use Rattle.std.specs.Prelude.{◌≡◌, Bool, List, [], ℕ, ◌+◌, ◌*◌, ◌%◌, ◌≤◌, ◌<◌, length, get_or, leb};
@@ -54,7 +57,8 @@ pub fn complete(rows: &[u8; ROWS], e: ElementNo, u: Place) -> bool
     rows[row_search::row(e, u)] % 2 == 1
 }
 
-// What the row of the element e after the place u has for the required place, or 0; `RAISE` more where the model has an "&" and u is a place.
+// What the row of the element e after the place u has for the required place, or 0; `RAISE` more where the
+// model has an "&" and u is a place.
 pub fn kept(rows: &[u8; ROWS], e: ElementNo, u: Place) -> usize
     requires { (e.0 ≤ element_limit) × (u.0 ≤ GRPGTCNT) }
     ensures { (result ≡ get_or rows.now (row_at e.0 u.0 + REQUIRED) 0) × (result ≤ 255) }
@@ -74,27 +78,32 @@ pub fn required(rows: &[u8; ROWS], e: ElementNo, u: Place) -> Place
     Place(p)
 }
 
-// Whether the start tag of the element e may be omitted. Of an element that is not declared, or where the tables are no type's, it is not
-// decided.
+// Whether the start tag of the element e may be omitted. Of an element that is not declared, or where the
+// tables are no type's, it is not decided.
 fn start_omitted(facts: &[u8; FACTS], e: ElementNo) -> bool
     requires { e.0 ≤ element_limit }
-    ensures { (s : List ℕ) (es : List Element) (raised : ℕ → Bool) → Facts s es raised facts.now → Declares es (decisions.start e.0) → result ≡ start_o es e.0 }
+    ensures { (s : List ℕ) (es : List Element) (raised : ℕ → Bool) → Facts s es raised facts.now →
+        Declares es (decisions.start e.0) → result ≡ start_o es e.0 }
 {
     facts[e.0 * FACT + START_OMITTED] == 1
 }
 
-// Whether the end tag of the element e may be omitted. Of an element that is not declared, or where the tables are no type's, it is not decided.
+// Whether the end tag of the element e may be omitted. Of an element that is not declared, or where the
+// tables are no type's, it is not decided.
 pub fn end_omitted(facts: &[u8; FACTS], e: ElementNo) -> bool
     requires { e.0 ≤ element_limit }
-    ensures { (s : List ℕ) (es : List Element) (raised : ℕ → Bool) → Facts s es raised facts.now → Declares es (decisions.start e.0) → result ≡ end_o es e.0 }
+    ensures { (s : List ℕ) (es : List Element) (raised : ℕ → Bool) → Facts s es raised facts.now →
+        Declares es (decisions.start e.0) → result ≡ end_o es e.0 }
 {
     facts[e.0 * FACT + END_OMITTED] == 1
 }
 
-// Whether the content of the element e is a model. Of an element that is not declared, or where the tables are no type's, it is not decided.
+// Whether the content of the element e is a model. Of an element that is not declared, or where the tables
+// are no type's, it is not decided.
 pub fn has_model(facts: &[u8; FACTS], e: ElementNo) -> bool
     requires { e.0 ≤ element_limit }
-    ensures { (s : List ℕ) (es : List Element) (raised : ℕ → Bool) → Facts s es raised facts.now → Declares es (decisions.start e.0) →
+    ensures { (s : List ℕ) (es : List Element) (raised : ℕ → Bool) → Facts s es raised facts.now →
+        Declares es (decisions.start e.0) →
         result ≡ has_model (content_of es e.0) }
 {
     facts[e.0 * FACT + HAS_MODEL] == 1
@@ -110,7 +119,8 @@ pub fn fitting(
     x: ElementNo,
 ) -> Place
     requires { (level ≤ TAGLVL) × (e.0 ≤ element_limit) × (u.0 ≤ GRPGTCNT) × (x.0 ≤ element_limit) }
-    ensures by_index { (s : List ℕ) (es : List Element) → Tables s es t.entry.rows.now t.entry.places.now t.entry.facts.now t.entry.members.now →
+    ensures by_index { (s : List ℕ) (es : List Element) → Tables s es t.entry.rows.now t.entry.places.now
+        t.entry.facts.now t.entry.members.now →
         (o : rules.Open) → Entered es t.entry.members.now begun.now level e.0 u.0 o →
         (k : Token) → name_number k ≡ x.0 → Declares es k → result.0 ≡ (decided s es).fits e.0 o.taken k }
     ensures result_bound { result.0 ≤ GRPGTCNT }
@@ -126,7 +136,8 @@ pub fn fitting(
 // Whether data may come next in the element e after the place u at the level.
 pub fn takes_data(t: TypeTables, begun: &[u32; BEGUN], level: usize, e: ElementNo, u: Place) -> bool
     requires { (level ≤ TAGLVL) × (e.0 ≤ element_limit) × (u.0 ≤ GRPGTCNT) }
-    ensures { (s : List ℕ) (es : List Element) → Tables s es t.entry.rows.now t.entry.places.now t.entry.facts.now t.entry.members.now →
+    ensures { (s : List ℕ) (es : List Element) → Tables s es t.entry.rows.now t.entry.places.now
+        t.entry.facts.now t.entry.members.now →
         (o : rules.Open) → Entered es t.entry.members.now begun.now level e.0 u.0 o →
         result ≡ leb 1 ((decided s es).fits e.0 o.taken decisions.pcdata) }
 {
@@ -155,10 +166,12 @@ fn lowered(p: usize) -> Place
     Place(p - RAISE)
 }
 
-// The place of the name x that may come next at the start of the element e, or 0. Nothing has begun there, so the row decides.
+// The place of the name x that may come next at the start of the element e, or 0. Nothing has begun there, so
+// the row decides.
 pub fn fitting_first(t: TypeTables, e: ElementNo, x: ElementNo) -> Place
     requires { (e.0 ≤ element_limit) × (x.0 ≤ element_limit) }
-    ensures by_index { (s : List ℕ) (es : List Element) (M : List ℕ) → Tables s es t.entry.rows.now t.entry.places.now t.entry.facts.now M → e.0 ≤ length es →
+    ensures by_index { (s : List ℕ) (es : List Element) (M : List ℕ) →
+        Tables s es t.entry.rows.now t.entry.places.now t.entry.facts.now M → e.0 ≤ length es →
         (k : Token) → name_number k ≡ x.0 → Declares es k → result.0 ≡ (decided s es).fits e.0 [] k }
     ensures result_bound { result.0 ≤ GRPGTCNT }
 {
@@ -171,8 +184,10 @@ pub fn fitting_first(t: TypeTables, e: ElementNo, x: ElementNo) -> Place
 // The element whose start is to be inferred in the element e where the place p is required, or 0.
 pub fn startable(t: TypeTables, e: ElementNo, p: Place) -> ElementNo
     requires { e.0 ≤ element_limit }
-    ensures by_index { (s : List ℕ) (es : List Element) (rows M : List ℕ) → Tables s es rows t.entry.places.now t.entry.facts.now M →
-        (o : rules.Open) (begun : List ℕ) (level u : ℕ) → Entered es M begun level e.0 u o → p.0 ≡ rules.required_place s es (decided s es) o →
+    ensures by_index { (s : List ℕ) (es : List Element) (rows M : List ℕ) →
+        Tables s es rows t.entry.places.now t.entry.facts.now M →
+        (o : rules.Open) (begun : List ℕ) (level u : ℕ) → Entered es M begun level e.0 u o →
+        p.0 ≡ rules.required_place s es (decided s es) o →
         result.0 ≡ rules.inferable s es (decided s es) o }
     ensures result_le_element_limit { result.0 ≤ element_limit }
 {
@@ -203,7 +218,8 @@ pub fn startable(t: TypeTables, e: ElementNo, p: Place) -> ElementNo
 // The element whose start is to be inferred at the start of the element e, or 0.
 pub fn inferable(t: TypeTables, e: ElementNo) -> ElementNo
     requires { e.0 ≤ element_limit }
-    ensures by_index { (s : List ℕ) (es : List Element) (M : List ℕ) → Tables s es t.entry.rows.now t.entry.places.now t.entry.facts.now M → e.0 ≤ length es →
+    ensures by_index { (s : List ℕ) (es : List Element) (M : List ℕ) →
+        Tables s es t.entry.rows.now t.entry.places.now t.entry.facts.now M → e.0 ≤ length es →
         result.0 ≡ rules.inferable s es (decided s es) (fresh e.0) }
     ensures result_le_element_limit { result.0 ≤ element_limit }
 {

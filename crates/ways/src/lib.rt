@@ -1,10 +1,12 @@
-// What the current element has to say to a start tag or to data: whether it fits, how many starts are inferred before it, and
-// whether the element's end is inferred. Nothing is changed here.
+// What the current element has to say to a start tag or to data: whether it fits, how many starts are
+// inferred before it, and whether the element's end is inferred. Nothing is changed here.
 //
-// `t` are the tables of the type, or `facts` the one of them that is asked (crate type_tables). x is the element that starts, or 0 for data.
-// Where the tables are no type's, an answer is not decided, but for the range that its contract has.
+// `t` are the tables of the type, or `facts` the one of them that is asked (crate type_tables). x is the
+// element that starts, or 0 for data. Where the tables are no type's, an answer is not decided, but for the
+// range that its contract has.
 //
-// Kept: 0 for no chain and `Place(0)` for no place: (plainer) so the rules have it (`chained`, `place_of` in specs/Asks), and `x.0 == 0` for data is a name's number.
+// Kept: 0 for no chain and `Place(0)` for no place: (plainer) so the rules have it (`chained`, `place_of` in
+// specs/Asks), and `x.0 == 0` for data is a name's number.
 #![tactic(auto)]
 
 ghost use Rattle.std.specs.Prelude.{◌≡◌, Bool, true, false, ◌&&◌, List, [], ℕ, ◌≤◌, ◌<◌, length, eqb, leb};
@@ -32,12 +34,14 @@ pub enum Way {
     Stuck,
 }
 
-// How many starts must be inferred in the element e where the place q is required before x fits, or 0 if there is no such
-// chain.
+// How many starts must be inferred in the element e where the place q is required before x fits, or 0 if
+// there is no such chain.
 fn chain(t: TypeTables, e: ElementNo, q: Place, x: ElementNo) -> usize
     requires { (e.0 ≤ element_limit) × (x.0 ≤ element_limit) }
-    ensures by_index { (s : List ℕ) (es : List Element) (M : List ℕ) → Tables s es t.entry.rows.now t.entry.places.now t.entry.facts.now M →
-        (o : rules.Open) → Requires s es M e.0 q.0 o → (k : Token) → name_number k ≡ x.0 → Declares es k → result ≡ chained s es (decided s es) k o }
+    ensures by_index { (s : List ℕ) (es : List Element) (M : List ℕ) →
+        Tables s es t.entry.rows.now t.entry.places.now t.entry.facts.now M →
+        (o : rules.Open) → Requires s es M e.0 q.0 o → (k : Token) → name_number k ≡ x.0 → Declares es k →
+        result ≡ chained s es (decided s es) k o }
     ensures upper_bound { result ≤ element_limit }
 {
     let mut c = type_tables::startable(t, e, q);
@@ -65,9 +69,12 @@ pub fn way_at(
     x: ElementNo,
 ) -> Way
     requires { (level ≤ TAGLVL) × (e.0 ≤ element_limit) × (u.0 ≤ GRPGTCNT) × (x.0 ≤ element_limit) }
-    ensures by_index { (s : List ℕ) (es : List Element) → Tables s es t.entry.rows.now t.entry.places.now t.entry.facts.now t.entry.members.now →
-        (o : rules.Open) → Entered es t.entry.members.now begun.now level e.0 u.0 o → q.0 ≡ rules.required_place s es (decided s es) o →
-        (k : Token) → name_number k ≡ x.0 → Declares es k → result ≡ way_of (rules.fitting s es (decided s es) o k) (chained s es (decided s es) k o) }
+    ensures by_index { (s : List ℕ) (es : List Element) → Tables s es t.entry.rows.now t.entry.places.now
+        t.entry.facts.now t.entry.members.now →
+        (o : rules.Open) → Entered es t.entry.members.now begun.now level e.0 u.0 o →
+        q.0 ≡ rules.required_place s es (decided s es) o →
+        (k : Token) → name_number k ≡ x.0 → Declares es k → result ≡ way_of (rules.fitting s es (decided s es)
+        o k) (chained s es (decided s es) k o) }
     ensures result_bound { (fit_of result ≤ GRPGTCNT) × (starts_of result ≤ element_limit) }
 {
     let p = type_tables::fitting(t, begun, level, e, u, x);
@@ -81,8 +88,8 @@ pub fn way_at(
     Way::Stuck
 }
 
-// Whether step 3 infers the current element's end: its content is complete, its end is "O" and it is not the document
-// element. The document alone lies around the document element.
+// Whether step 3 infers the current element's end: its content is complete, its end is "O" and it is not the
+// document element. The document alone lies around the document element.
 pub fn may_end(facts: &[u8; FACTS], o: OpenElements) -> bool
     requires { o.element.0 ≤ element_limit }
     ensures may_end { MayEnd facts.now o result }
@@ -109,12 +116,14 @@ pub fn starts_of(w: Way) -> usize
     }
 }
 
-// The place of x by what was found, in the element e, or 0 where nothing fits. Where starts were inferred, e is the last that was started, in
-// which nothing was taken.
+// The place of x by what was found, in the element e, or 0 where nothing fits. Where starts were inferred, e
+// is the last that was started, in which nothing was taken.
 pub fn place_of(t: TypeTables, e: ElementNo, found: Way, x: ElementNo) -> Place
     requires { (e.0 ≤ element_limit) × (x.0 ≤ element_limit) × (fit_of found ≤ GRPGTCNT) }
-    ensures by_index { (s : List ℕ) (es : List Element) (M : List ℕ) → Tables s es t.entry.rows.now t.entry.places.now t.entry.facts.now M → e.0 ≤ length es →
-        (k : Token) → name_number k ≡ x.0 → Declares es k → result.0 ≡ place_of ((decided s es).fits e.0 [] k) found }
+    ensures by_index { (s : List ℕ) (es : List Element) (M : List ℕ) →
+        Tables s es t.entry.rows.now t.entry.places.now t.entry.facts.now M → e.0 ≤ length es →
+        (k : Token) → name_number k ≡ x.0 → Declares es k → result.0 ≡ place_of ((decided s es).fits e.0 [] k)
+        found }
     ensures result_bound { result.0 ≤ GRPGTCNT }
 {
     match found {
@@ -137,7 +146,9 @@ pub fn is_full(count: usize, x: ElementNo) -> bool
 // Whether x is an element with a model: it is open once it has started.
 pub fn opens(facts: &[u8; FACTS], x: ElementNo) -> bool
     requires { x.0 ≤ element_limit }
-    ensures { (x.0 ≡ 0 → result ≡ false) × ((s : List ℕ) (es : List Element) (raised : ℕ → Bool) → Facts s es raised facts.now → Declares es (decisions.start x.0) → result ≡ has_model (content_of es x.0)) }
+    ensures { (x.0 ≡ 0 → result ≡ false) × ((s : List ℕ) (es : List Element) (raised : ℕ → Bool) →
+        Facts s es raised facts.now → Declares es (decisions.start x.0) →
+        result ≡ has_model (content_of es x.0)) }
 {
     if x.0 == 0 {
         return false;
@@ -145,7 +156,8 @@ pub fn opens(facts: &[u8; FACTS], x: ElementNo) -> bool
     type_tables::has_model(facts, x)
 }
 
-// Whether the document element was there and has ended: the document itself is the current element, and it is complete.
+// Whether the document element was there and has ended: the document itself is the current element, and it is
+// complete.
 pub fn is_over(o: OpenElements) -> bool
     ensures { result ≡ (eqb o.element.0 0 && o.complete) }
 {
