@@ -22,7 +22,6 @@ use pieces::Type;
 use text::Refusal;
 use type_judge::TypeFault;
 use type_stage::{Refused, Stage};
-use type_tables::TypeTables;
 
 // The documents of a batch: parts of one string, where each starts and how long it is, and its stretch of the buffer.
 #[derive(Clone, Copy)]
@@ -119,20 +118,17 @@ fn read_all(c: Settings, s: &[u8], p: Parts, bytes: &mut [u8], answers: &mut [u3
         lists: [0; LISTS],
     };
     let g = prepared(c, s, &mut t);
-    let under = Type {
-        long: c.name_length,
-        edition: c.edition,
-        file: s,
-        elements: &t.elements,
-        index: &t.index,
-        tables: TypeTables {
-            rows: &t.rows,
-            places: &t.places,
-            facts: &t.facts,
-            members: &t.members,
-        },
-        lists: &t.lists,
-    };
+    let under = one_document::under(
+        c,
+        s,
+        &t.elements,
+        &t.index,
+        &t.rows,
+        &t.places,
+        &t.facts,
+        &t.members,
+        &t.lists,
+    );
     read_parts(g, under, p, bytes, answers);
 }
 

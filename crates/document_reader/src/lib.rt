@@ -13,10 +13,8 @@ ghost use Rattle.one_document.specs.Answer.{answer_of, CountFits, Judges, Judged
 use inputs::Settings;
 use layout::{ELEMENTS, EVENT, FACTS, INDEX, LISTS, MEMBERS, PLACES, RECORDS, ROWS};
 use one_document::Answer;
-use pieces::Type;
 use text::Reading;
 use type_stage::Refused;
-use type_tables::TypeTables;
 
 // Number 24 of the settings, numbers 1 and 2 of both inputs, then the type: accepted with so many elements in `elements`, the heads of their lists in `heads`,
 // which is all 0 before, or refused. On refusal what both hold is not decided.
@@ -72,20 +70,9 @@ fn read_tabled(
         &mut facts,
         members,
     );
-    let t = Type {
-        long: a.settings.name_length,
-        edition: a.settings.edition,
-        file: a.file,
-        elements: a.elements,
-        index: &index,
-        tables: TypeTables {
-            rows: &rows,
-            places: &places,
-            facts: &facts,
-            members,
-        },
-        lists,
-    };
+    let t = one_document::under(
+        a.settings, a.file, a.elements, &index, &rows, &places, &facts, members, lists,
+    );
     one_document::follow(t, d, bytes)
 }
 
@@ -150,20 +137,9 @@ fn numbered(
         &mut facts,
         &mut members,
     );
-    let t = Type {
-        long: a.settings.name_length,
-        edition: a.settings.edition,
-        file: a.file,
-        elements: a.elements,
-        index: &index,
-        tables: TypeTables {
-            rows: &rows,
-            places: &places,
-            facts: &facts,
-            members: &members,
-        },
-        lists: &lists,
-    };
+    let t = one_document::under(
+        a.settings, a.file, a.elements, &index, &rows, &places, &facts, &members, &lists,
+    );
     let classes = delimiters::class_table();
     let mut none = [0u8; 0];
     document_events::events_of(t, &classes, d, numbers, &mut none)

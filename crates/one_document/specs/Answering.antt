@@ -19,7 +19,8 @@ use Rattle.type_stage.specs.declared.Refused.TheVariants.{InType, InDocument}
 use Rattle.document_laws.specs.Decide.{decided}
 use Rattle.document_laws.specs.OneReading.{accepted_decided}
 use Rattle.document_events.specs.Loop.{EventsOf}
-use Rattle.one_document.specs.Answer.{answer_of, CountFits, Judges, Followed, lent_of, Counts, Answers, unless_full, fitted_to}
+use Rattle.inputs.specs.Checks.{RefusesAlways}
+use Rattle.one_document.specs.Answer.{refusal_of, answer_of, CountFits, Judges, Followed, lent_of, Counts, Answers, unless_full, fitted_to}
 
 -- One buffer alone
 
@@ -52,8 +53,8 @@ module _ (c : Settings) (s d numbers numbers_after bytes bytes_after : List ℕ)
   ordered_answers g (InType x) v h e = rw e h
   ordered_answers g (InDocument f) v h e = rw e h
 
-  pub judged_answers : (elements heads : List ℕ) (x : Refused) (v : Result ℕ Refused) → Judges c s d elements heads (Err x) → v ≡ Err x → Answers c s d numbers numbers_after bytes bytes_after v
-  judged_answers elements heads x v h e = rw e h
+  pub judged_answers : (x : Refused) (v : Result ℕ Refused) → RefusesAlways c s d (refusal_of x) → v ≡ Err x → Answers c s d numbers numbers_after bytes bytes_after v
+  judged_answers x v h e = rw e h
 
   -- What is followed is the answer, where a refusal is the document's.
   pub followed_answers : BothLegible c s d → (r : Result ℕ Fault) (v : Result ℕ Refused) → Followed c s d numbers numbers_after bytes bytes_after r

@@ -14,13 +14,50 @@ ghost use Rattle.type_tables.specs.Tables.{Tables};
 ghost use Rattle.document_events.specs.Loop.{EventsOf};
 ghost use Rattle.one_document.specs.Answer.{answer_of, CountFits, Answers, fitted_to};
 
-use layout::{EVENT, NUMBER};
+use inputs::Settings;
+use layout::{EVENT, FACTS, INDEX, NUMBER, PLACES, RECORDS, ROWS};
 use pieces::Type;
 use text::{Reading, Refusal};
 use type_stage::Refused;
+use type_tables::TypeTables;
 
 // The reader's answer: how many events there are, or which of the inputs is refused.
 pub type Answer = Result<usize, Refused>;
+
+// What a document is read under: the settings, the type file, its elements and its tables.
+pub fn under<'x>(
+    c: Settings,
+    file: &'x [u8],
+    elements: &'x [u32; RECORDS],
+    index: &'x [u8; INDEX],
+    rows: &'x [u8; ROWS],
+    places: &'x [u8; PLACES],
+    facts: &'x [u8; FACTS],
+    members: &'x [u8],
+    lists: &'x [u16],
+) -> Type<'x>
+    ensures { result ≡ record {
+        long = c.name_length; edition = c.edition;
+        file = file.entry; elements = elements.entry; index = index.entry;
+        tables = record { rows = rows.entry; places = places.entry; facts = facts.entry; members = members.entry };
+        lists = lists.entry } }
+{
+    let tables = TypeTables {
+        rows,
+        places,
+        facts,
+        members,
+    };
+    Type {
+        long: c.name_length,
+        edition: c.edition,
+        file,
+        elements,
+        index,
+        tables,
+        lists,
+    }
+}
 
 // The events of the document under a type whose tables are filled, as bytes. No numbers are lent: that there are none is seen here, where the single call and
 // the batch both come by, so that the loop writes bytes alone.

@@ -6,7 +6,7 @@ use Rattle.one_document.specs.Answering.{judged_answers, followed_answers}
 use Rattle.document_reader.proofs.answered.Goals as goal
 
 pub returns-in_err-n : goal.returns-in_err-n
-returns-in_err-n c = judged_answers (settings_of c.args.c) c.args.s.now c.args.d.now _ _ _ _ _ c.in_err-n.ensures (raised _ c.from_residual.ensures.1)
+returns-in_err-n c = judged_answers (settings_of c.args.c) c.args.s.now c.args.d.now [] [] c.args.bytes.now c.args.bytes.now _ _ c.in_err-n.ensures (raised _ c.from_residual.ensures.1)
 
 pub read_under-requires : goal.read_under-requires
 read_under-requires c = (c.in_ok-n.ensures.1, c.in_ok-n.ensures.0.short)

@@ -12,9 +12,9 @@ fill-requires c = record { by_index = (_, c.requires.0); lists_value = (refl, re
 pub events_of-requires : goal.events_of-requires
 events_of-requires c =
     let (es, a, k, w, h) = c.requires.0 in
-    (c.class_table-classes.ensures, (offered_range _ a.legible.offered).1, c.requires.1, a.legible.short)
+    rw c.under-t.ensures (c.class_table-classes.ensures, (offered_range _ a.legible.offered).1, c.requires.1, a.legible.short)
 
 pub returns : goal.returns
 returns c =
     let (es, a, i, tables, l) = c.fill.ensures _ c.requires.0 in
-    (es, a, events_numbers (settings_of c.args.a.settings) c.args.a.file.now es c.args.d.now c.args.numbers.now c.events_of.new.numbers [] c.events_of.new.bytes c.events_of.result (c.events_of.ensures es i tables l))
+    (es, a, events_numbers (settings_of c.args.a.settings) c.args.a.file.now es c.args.d.now c.args.numbers.now c.events_of.new.numbers [] c.events_of.new.bytes c.events_of.result ((rw c.under-t.ensures at c.events_of.ensures) es i tables l))

@@ -21,9 +21,9 @@ fill-requires c =
 pub follow-requires : goal.follow-requires
 follow-requires c =
     let (es, a, k, w, l) = c.requires.0 in
-    ((offered_range _ a.legible.offered).1, c.requires.1, a.legible.short)
+    rw c.under-t.ensures ((offered_range _ a.legible.offered).1, c.requires.1, a.legible.short)
 
 pub returns : goal.returns
 returns c =
     let (es, a, k, w, l) = c.requires.0 in
-    (es, a, c.follow.ensures es (c.fill_index.ensures _ es a k w) (c.fill.ensures _ es a k w) l)
+    (es, a, (rw c.under-t.ensures at c.follow.ensures) es (c.fill_index.ensures _ es a k w) (c.fill.ensures _ es a k w) l)
