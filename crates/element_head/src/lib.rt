@@ -4,11 +4,11 @@
 ghost use Rattle.std.specs.Prelude.{◌≡◌, List, ◌≤◌, ◌<◌, length};
 ghost use Rattle.rules.specs.TypeFile.{omission, words, head};
 ghost use Rattle.rules.specs.TypeFile as rules;
-ghost use Rattle.rules.specs.Bytes.{type_limit};
+ghost use Rattle.rules.specs.Bytes.{element_limit, type_limit};
 ghost use Rattle.element_names.specs.Names.{Recorded};
 ghost use Rattle.element_head.specs.Heads.{omission_of, head_of, HeadIn};
 
-use element_names::Declared;
+use element_names::Elements;
 use text::{Reading, Refusal};
 
 // What stands before the content: where the name stands, whether the start tag and the end tag may be
@@ -59,8 +59,8 @@ fn omission_at(long: usize, s: &[u8], from: usize, i: usize) -> Reading<Word>
 
 // From the end of the keyword to the second word. Where the table holds no records of elements, the answer is
 // not decided, but for its range.
-pub fn head_at(long: usize, s: &[u8], at: usize, d: Declared) -> Reading<Head>
-    requires { (at ≤ length s.now) × (length s.now ≤ type_limit) }
+pub fn head_at(long: usize, s: &[u8], at: usize, d: Elements) -> Reading<Head>
+    requires { (at ≤ length s.now) × (length s.now ≤ type_limit) × (d.count ≤ element_limit) }
     ensures result_value { (es : List rules.Element) → length es ≡ d.entry.count →
         Recorded d.entry.records.now es → head_of result ≡ head long s.now at es }
     ensures head_in { HeadIn long (length s.now) at d.entry.count result }

@@ -15,11 +15,12 @@ use layout::{ELEMENTS, RECORD, RECORDS};
 use text::{Reading, Refusal};
 
 // The elements declared so far: how many there are, and the table that begins with their records.
+// Kept: (fixed) that there are at most 64 is a clause of `declared` and `element_name`, which docs/PROMISES.md
+// names, and not an invariant of the type.
 #[derive(Clone, Copy)]
-pub struct Declared<'a> {
+pub struct Elements<'a> {
     pub records: &'a [u32; RECORDS],
     pub count: usize,
-    pub ghost few: { count ≤ element_limit },
 }
 
 // Whether a name is declared, and with how many names it was compared.
@@ -30,7 +31,7 @@ pub struct Lookup {
     pub compared: usize,
 }
 
-impl<'a> Declared<'a> {
+impl<'a> Elements<'a> {
     // A number of the table.
     fn number(self, k: usize) -> usize
         requires { k < RECORDS }
@@ -54,8 +55,8 @@ impl<'a> Declared<'a> {
     // Whether one of the elements has the name of this size at `at`. Only names of the same length and
     // first letter are compared, in declaration order, up to the one that is found. Where the table holds
     // no records of elements the answer is not decided, but that at most `count` names are compared.
-    pub fn find(self, s: &[u8], at: usize, size: usize) -> Lookup
-        requires { (at < 4294967296) × (1 ≤ size) × (size < 4294967296) }
+    pub fn declared(self, s: &[u8], at: usize, size: usize) -> Lookup
+        requires { (self.count ≤ element_limit) × (at < 4294967296) × (1 ≤ size) × (size < 4294967296) }
         ensures found_value { (es : List rules.Element) → length es ≡ self.entry.count →
             Recorded self.entry.records.now es → (result.found ≡ is_declared s.now es at size)
             × (result.compared ≡ compared s.now es s.now at size) }
@@ -83,8 +84,8 @@ impl<'a> Declared<'a> {
 // The name of the element, declared for the first time, at most the 64th. Where the table holds no records
 // of elements the answer is not decided, but that a name that is got lies in the input, has at most `long`
 // bytes, and is at most the 64th.
-pub fn element_name(long: usize, s: &[u8], i: usize, d: Declared) -> Reading<usize>
-    requires { (i ≤ length s.now) × (length s.now ≤ type_limit) }
+pub fn element_name(long: usize, s: &[u8], i: usize, d: Elements) -> Reading<usize>
+    requires { (i ≤ length s.now) × (length s.now ≤ type_limit) × (d.count ≤ element_limit) }
     ensures result_value { (es : List rules.Element) → length es ≡ d.entry.count →
         Recorded d.entry.records.now es → reached result ≡ element_name long s.now i es }
     ensures name_in { NameIn long (length s.now) i d.entry.count result }
@@ -95,7 +96,7 @@ pub fn element_name(long: usize, s: &[u8], i: usize, d: Declared) -> Reading<usi
         if long < e - i {
             return Err(Refusal::NameTooLong.at(i));
         }
-        if d.find(s, i, e - i).found {
+        if d.declared(s, i, e - i).found {
             return Err(Refusal::DeclaredTwice.at(i));
         }
         if ELEMENTS <= d.count {

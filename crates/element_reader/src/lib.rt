@@ -12,7 +12,7 @@ ghost use Rattle.element_reader.specs.Keeps.{MeetsElement, ElementIn};
 
 use element_content::Model;
 use element_head::Head;
-use element_names::Declared;
+use element_names::Elements;
 use layout::{MODEL, NAMES, RECORDS};
 use text::{Reading, Refusal};
 
@@ -91,7 +91,7 @@ pub fn element_at(
         MeetsElement (length s.now) at names.new table.new es result (element long s.now at es) }
     ensures element_in { ElementIn count result }
 {
-    let d = Declared {
+    let d = Elements {
         records: elements,
         count: count,
     };

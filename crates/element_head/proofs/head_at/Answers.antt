@@ -12,7 +12,7 @@ returns-in_err-i-clause-result_value c es n r =
     ap head_of (passed_on _ c.from_residual.ensures.1) ∙ sym (head_gap a.long a.s.now a.at es (sym c.in_err-i.ensures))
 
 pub element_name-requires : goal.element_name-requires
-element_name-requires c = ((gap_range c.args.s.now c.args.at _ c.requires.0 (sym c.in_ok-i.ensures)).1, c.requires.1)
+element_name-requires c = ((gap_range c.args.s.now c.args.at _ c.requires.0 (sym c.in_ok-i.ensures)).1, c.requires.1, c.requires.2)
 
 pub returns-in_err-e-clause-result_value : goal.returns-in_err-e-clause-result_value
 returns-in_err-e-clause-result_value c es n r =

@@ -19,23 +19,24 @@ returns-then-long-e c =
     let is_letter = tested letter c.byte-b.ensures c.is_letter.ensures c.if-is_letter.true in
     record { result_value = λ es n r. ap refusal_of c.at.ensures ∙ sym (name_long a.long a.s.now a.i es is_letter (omega arith)); name_in = tt }
 
-pub find-requires : goal.find-requires
-find-requires c =
+pub declared-requires : goal.declared-requires
+declared-requires c =
     let a = c.args in
     let is_letter = tested letter c.byte-b.ensures c.is_letter.ensures c.if-is_letter.true in (
+      omega arith,
       omega arith,
       omega (arith, name_end_more a.s.now a.i is_letter),
       omega (arith, name_end_le a.s.now a.i c.requires.0),
     )
 
-pub returns-then-find : goal.returns-then-find
-returns-then-find c =
+pub returns-then-declared : goal.returns-then-declared
+returns-then-declared c =
     let a = c.args in
     let is_letter = tested letter c.byte-b.ensures c.is_letter.ensures c.if-is_letter.true in
     record {
       result_value = λ es n r.
-          ap refusal_of c.at-then-find.ensures
-          ∙ sym (name_again a.long a.s.now a.i es is_letter (omega arith) (rw (← c.name_end-e.ensures) (sym (c.find.ensures.found_value es n r).0 ∙ c.if-find.true)));
+          ap refusal_of c.at-then-declared.ensures
+          ∙ sym (name_again a.long a.s.now a.i es is_letter (omega arith) (rw (← c.name_end-e.ensures) (sym (c.declared.ensures.found_value es n r).0 ∙ c.if-declared.true)));
       name_in = tt;
     }
 
@@ -46,7 +47,7 @@ returns-then-d-ge-ELEMENTS c =
     record {
       result_value = λ es n r.
           ap refusal_of c.at-then-d-ge-ELEMENTS.ensures
-          ∙ sym (name_many a.long a.s.now a.i es is_letter (omega arith) (rw (← c.name_end-e.ensures) (sym (c.find.ensures.found_value es n r).0 ∙ c.if-find.false)) (omega arith));
+          ∙ sym (name_many a.long a.s.now a.i es is_letter (omega arith) (rw (← c.name_end-e.ensures) (sym (c.declared.ensures.found_value es n r).0 ∙ c.if-declared.false)) (omega arith));
       name_in = tt;
     }
 
@@ -57,7 +58,7 @@ returns-then-is_letter c =
     record {
       result_value = λ es n r.
           rw c.name_end-e.ensures
-          (sym (name_got a.long a.s.now a.i es is_letter (omega arith) (rw (← c.name_end-e.ensures) (sym (c.find.ensures.found_value es n r).0 ∙ c.if-find.false)) (omega arith)));
+          (sym (name_got a.long a.s.now a.i es is_letter (omega arith) (rw (← c.name_end-e.ensures) (sym (c.declared.ensures.found_value es n r).0 ∙ c.if-declared.false)) (omega arith)));
       name_in = omega (arith, name_end_from a.s.now a.i, name_end_le a.s.now a.i c.requires.0);
     }
 

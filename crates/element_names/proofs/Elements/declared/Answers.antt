@@ -1,7 +1,7 @@
 use Rattle.std.proofs.Common.{sym, ◌∙◌, arith}
 use Rattle.element_names.specs.Records.{seeks_start, seeks_found, seeks_other, seeks_passed, seeks_none}
-use Rattle.element_names.proofs.Declared.find.Goals as goal
-use Rattle.element_names.proofs.Declared.find.Goals.{else-is_alike, then-is_alike+else-same_text}
+use Rattle.element_names.proofs.Elements.declared.Goals as goal
+use Rattle.element_names.proofs.Elements.declared.Goals.{else-is_alike, then-is_alike+else-same_text}
 
 pub loop-k-init : goal.loop-k-init
 loop-k-init c =

@@ -1,7 +1,7 @@
 -- `is_alike` meets its contract: its tests, one after the other.
 use native.Mathlib.Omega.{arith}
 use Rattle.element_names.specs.Records.{alike_size, alike_first}
-use Rattle.element_names.proofs.Declared.is_alike.Goals as goal
+use Rattle.element_names.proofs.Elements.is_alike.Goals as goal
 
 pub returns-then-number-size : goal.returns-then-number-size
 returns-then-number-size c = let a = c.args in
