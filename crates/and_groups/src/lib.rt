@@ -1,9 +1,10 @@
 // What has begun of the "&" groups of the open elements when a place is taken, and what it decides then: whether the content is complete, and which place is
 // required.
 //
-// All of it is asked of sets of members: those that hold a place, those of the groups around it, those that cannot be nothing, those that have begun. Where the
-// table tells no model, or the bits are not those of the places taken in it, what `take` answers is not decided, but that it is none or a place and that the bits
-// of every other level stay.
+// All of it is asked of sets of members: those that hold a place, those of the groups around it, those that
+// cannot be nothing, those that have begun. Where the table tells no model, or the bits are not those of the
+// places taken in it, what `take` answers is not decided, but that it is none or a place and that the bits of
+// every other level stay.
 #![tactic(auto)]
 
 ghost use Rattle.std.specs.Prelude.{ℕ, ◌-◌, ◌≤◌, ◌<◌, IfSome};
@@ -37,8 +38,9 @@ fn entered(m: Members, h: usize, b: Bits) -> Bits
     b.with(h) | m.holding(g)
 }
 
-// The first member that the first group from the member `inner` outwards lacks, where the member at hand can end, and so can those between. Members count in
-// the order of their groups, and groups from the inner to the outer ones.
+// The first member that the first group from the member `inner` outwards lacks, where the member at hand can
+// end, and so can those between. Members count in the order of their groups, and groups from the inner to the
+// outer ones.
 fn blocking(m: Members, inner: usize, b: Bits) -> Option<usize>
     requires { inner ≤ 255 }
     ensures some { IfSome result (λ (x : ℕ). 1 ≤ x) }
@@ -95,9 +97,10 @@ fn required_in(m: Members, inner: usize, x: usize, b: Bits) -> Place
     Place(p)
 }
 
-// The place p of the element e is taken at the level, after the place u; where this is 0, nothing has begun. Where a group lacks a member that must come
-// before anything behind the group, the place that is required there, or 0; none where no group does. What follows is written for both cases: so large it stays out
-// of the loop over tokens, where it would cost documents of types without "&" a tenth of their time.
+// The place p of the element e is taken at the level, after the place u; where this is 0, nothing has begun.
+// Where a group lacks a member that must come before anything behind the group, the place that is required
+// there, or 0; none where no group does. What follows is written for both cases: so large it stays out of the
+// loop over tokens, where it would cost documents of types without "&" a tenth of their time.
 pub fn take(
     members: &[u8],
     begun: &mut [u32; BEGUN],

@@ -33,8 +33,8 @@ fn is_full(m: Members, g: usize, b: Bits) -> bool
     (needed - b).is_none()
 }
 
-// Whether p may come next, in the member `next`, where u is in the member `last`: the groups around u that p is not in lack nothing, and in the first that p is in
-// its member is that of u or has not begun.
+// Whether p may come next, in the member `next`, where u is in the member `last`: the groups around u that p
+// is not in lack nothing, and in the first that p is in its member is that of u or has not begun.
 fn is_left(m: Members, last: Member, next: Member, b: Bits) -> bool
     ensures { IsLeft m.entry.table.now m.entry.e.0 last.number last.group next.number next.group b result }
 {

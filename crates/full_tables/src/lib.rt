@@ -23,8 +23,10 @@ pub fn holds_and(s: &[u8]) -> bool
     some
 }
 
-// The tables of an accepted type whose n elements are recorded, and whose lists stand at `heads`, in whatever edition. All of them are 0 before.
-// Kept: the tables one by one: (plainer) a struct of `&mut` would need in the contract that each field stays the same reference.
+// The tables of an accepted type whose n elements are recorded, and whose lists stand at `heads`, in whatever
+// edition. All of them are 0 before.
+// Kept: the tables one by one: (plainer) a struct of `&mut` would need in the contract that each field stays
+// the same reference.
 pub fn fill(
     long: usize,
     s: &[u8],

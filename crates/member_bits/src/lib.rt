@@ -1,7 +1,8 @@
 // Members of an element's "&" groups as bits, from the first on: those of the first 64 in one number, the others in a second. There are at most 96.
 #![tactic(auto)]
 
-ghost use Rattle.std.specs.Prelude.{◌≡◌, Bool, false, ◌&&◌, ◌||◌, not, ℕ, ◌+◌, ◌≤◌, ◌<◌, IfSome, eqb, ltb, leb};
+ghost use Rattle.std.specs.Prelude.{◌≡◌, Bool, false, ◌&&◌, ◌||◌, not, ℕ, ◌+◌, ◌≤◌, ◌<◌};
+ghost use Rattle.std.specs.Prelude.{IfSome, eqb, ltb, leb};
 ghost use Rattle.rules.specs.Bytes.{GRPGTCNT};
 ghost use Rattle.member_bits.specs.Having.{Has, IsNone, First, number_of, Lowest};
 
@@ -9,7 +10,8 @@ use layout::GRPGTCNT;
 use std::ops::{BitAnd, BitOr, Sub};
 
 // Sixty-four members in one number, the others in a second.
-// Kept: two fields and a test of 64 in `with`, `has` and `above`, where an array would be indexed by `(h - 1) / 64`: (plainer) a set stays in two registers.
+// Kept: two fields and a test of 64 in `with`, `has` and `above`, where an array would be indexed by the
+// member's half: (plainer) a set stays in two registers.
 #[derive(Clone, Copy)]
 pub struct Bits {
     pub low: usize,

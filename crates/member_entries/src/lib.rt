@@ -11,7 +11,8 @@ ghost use Rattle.member_entries.specs.Entries.{put_free, marked, put_places, put
 
 use layout::{ENDING, GROUP, LASTS, MODEL, MODEL_ROW, POSITIONS};
 
-// What a group is put by: where the element's numbers begin, the table of its model, and how many groups are put, with the last place of each.
+// What a group is put by: where the element's numbers begin, the table of its model, and how many groups are
+// put, with the last place of each.
 #[derive(Clone, Copy)]
 pub struct Draft<'a> {
     pub base: usize,
@@ -22,7 +23,8 @@ pub struct Draft<'a> {
     pub ghost few: { groups < AND_GROUPS },
 }
 
-// The member `number` of the places [lo, hi). The place `other` can begin another member of its group, so it may come next where this one can end.
+// The member `number` of the places [lo, hi). The place `other` can begin another member of its group, so it
+// may come next where this one can end.
 #[derive(Clone, Copy)]
 pub struct Member {
     pub number: usize,
@@ -77,11 +79,13 @@ fn put_places(members: &mut [u8], d: Draft, m: Member)
     }
 }
 
-// The member has the group g, which ends with the place `last`, if that is one of its places and no inner member has the group.
+// The member has the group g, which ends with the place `last`, if that is one of its places and no inner
+// member has the group.
 fn put_outer(members: &mut [u8], d: Draft, m: Member, last: usize, g: usize)
     requires last_bound { last < 256 }
     requires g_bound { g ≤ AND_GROUPS }
-    ensures { members.new ≡ put_outer members.old d.entry.base d.entry.table.now m.other m.number m.lo m.hi last g }
+    ensures { members.new ≡ put_outer members.old d.entry.base d.entry.table.now m.other m.number m.lo m.hi
+        last g }
 {
     if m.lo <= last {
         if last < m.hi {
@@ -96,16 +100,19 @@ fn put_outer(members: &mut [u8], d: Draft, m: Member, last: usize, g: usize)
 
 // The member has those of the first groups that are within it and that no inner member has.
 fn put_outers(members: &mut [u8], d: Draft, m: Member)
-    ensures { members.new ≡ put_outers members.old d.entry.base d.entry.table.now m.other m.number m.lo m.hi d.entry.lasts.now 1 (d.entry.groups + 1) }
+    ensures { members.new ≡ put_outers members.old d.entry.base d.entry.table.now m.other m.number m.lo m.hi
+        d.entry.lasts.now 1 (d.entry.groups + 1) }
 {
     for g in 1..d.groups + 1 {
         put_outer(members, d, m, numbers::wide(d.lasts[g]), g);
     }
 }
 
-// The member of the group after the first groups: its places and the groups within it, its group, and the place that it requires.
+// The member of the group after the first groups: its places and the groups within it, its group, and the
+// place that it requires.
 pub fn put_member(members: &mut [u8], d: Draft, m: Member, required: u8)
-    ensures { members.new ≡ put_member members.old d.entry.base d.entry.table.now d.entry.lasts.now d.entry.groups m.other m.number m.lo m.hi required }
+    ensures { members.new ≡ put_member members.old d.entry.base d.entry.table.now d.entry.lasts.now
+        d.entry.groups m.other m.number m.lo m.hi required }
 {
     put_places(members, d, m);
     put_outers(members, d, m);

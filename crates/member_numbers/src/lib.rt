@@ -75,11 +75,13 @@ impl<'a> Members<'a> {
         number(self.table, self.e.0 * MEMBER + 2 * POSITIONS + h)
     }
 
-    // What is kept of the group g: the number of its first member; how many members cannot be nothing, which are numbered first; how many there are; the
-    // innermost member that holds the group, and `ENDING` more where it can end with the group, or 0.
+    // What is kept of the group g: the number of its first member; how many members cannot be nothing, which
+    // are numbered first; how many there are; the innermost member that holds the group, and `ENDING` more
+    // where it can end with the group, or 0.
     pub fn of_group(self, g: usize, which: usize) -> usize
         requires { (g ≤ 255) × (which ≤ 3) }
-        ensures { (result ≡ get_or self.entry.table.now (record_at self.entry.table.now self.entry.e.0 g + which) 0) × (result ≤ 255) }
+        ensures { (result ≡ get_or self.entry.table.now
+            (record_at self.entry.table.now self.entry.e.0 g + which) 0) × (result ≤ 255) }
     {
         number(
             self.table,

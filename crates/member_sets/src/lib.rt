@@ -55,7 +55,8 @@ fn is_around(g: usize, h: usize, f: usize) -> bool
 // How far out the groups can end with the group g: where the member that holds it can, as far as from the group f of that member.
 fn reach_from(m: Members, g: usize, outer: usize, f: usize) -> usize
     requires { (g ≤ AND_GROUPS) × (f ≤ AND_GROUPS) }
-    ensures { (ENDING < outer → result ≡ reach_at m.entry.table.now m.entry.e.0 f) × (outer ≤ ENDING → result ≡ g) × (result ≤ 255) }
+    ensures { (ENDING < outer → result ≡ reach_at m.entry.table.now m.entry.e.0 f)
+        × (outer ≤ ENDING → result ≡ g) × (result ≤ 255) }
 {
     if ENDING < outer {
         return m.reach_of(f);

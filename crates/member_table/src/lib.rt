@@ -82,7 +82,8 @@ impl Piece {
 }
 
 // How many of the k pieces of the stack from `first` on cannot be nothing.
-// Kept: the stack, `first` and k, no sub-slice: (fixed) `needed_in`, `number_at` and `put_group` of Filling say it of the stack from `first` on.
+// Kept: the stack, `first` and k, no sub-slice: (fixed) `needed_in`, `number_at` and `put_group` of Filling
+// say it of the stack from `first` on.
 fn needed_in(stack: &[Piece; POSITIONS], first: usize, k: usize) -> usize
     requires { first + k ≤ POSITIONS }
     ensures { (result ≡ needed_in stack.now first k) × (result ≤ k) }
@@ -110,7 +111,8 @@ fn put_one(
     requires j_bound { first + j < POSITIONS }
     requires own_bound { (own < POSITIONS) × (needed ≤ POSITIONS) }
     requires j_bound_2 { number_at stack.now first own needed j < POSITIONS }
-    ensures { members.new ≡ put_one members.old d.entry.base d.entry.table.now d.entry.lasts.now d.entry.groups own stack.now first needed j }
+    ensures { members.new ≡ put_one members.old d.entry.base d.entry.table.now d.entry.lasts.now
+        d.entry.groups own stack.now first needed j }
 {
     let m = stack[first + j];
     let n = needed_in(stack, first, j);
@@ -144,7 +146,8 @@ fn put_group(
     requires le_k { 2 ≤ k }
     requires k_bound { first + k ≤ POSITIONS }
     requires k_bound_2 { count + k < POSITIONS }
-    ensures members_after { members.new ≡ put_group members.old d.entry.base d.entry.table.now d.entry.lasts.now d.entry.groups (count + 1) stack.now first (needed_in stack.now first k) k }
+    ensures members_after { members.new ≡ put_group members.old d.entry.base d.entry.table.now
+        d.entry.lasts.now d.entry.groups (count + 1) stack.now first (needed_in stack.now first k) k }
     ensures value { result ≡ needed_in stack.now first k }
 {
     let own = count + 1;

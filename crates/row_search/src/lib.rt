@@ -37,7 +37,8 @@ fn smaller(places: &[u8; PLACES], e: ElementNo, p: Place) -> Place
     Place(numbers::wide(places[(e.0 * POSITIONS + p.0) * LINK + 1]))
 }
 
-// The largest of the place p and the smaller ones of its name, which are linked downwards, that may come next, or 0.
+// The largest of the place p and the smaller ones of its name, which are linked downwards, that may come
+// next, or 0.
 // Kept: `Place(0)` for none: (plainer) the links, the facts and the rules' `fits` have 0 there too.
 fn search<F: Fn(Place) -> bool>(places: &[u8; PLACES], e: ElementNo, p: Place, may_come: F) -> Place
     requires place { (e.0 ≤ element_limit) × (p.0 ≤ GRPGTCNT) }
@@ -58,8 +59,8 @@ fn search<F: Fn(Place) -> bool>(places: &[u8; PLACES], e: ElementNo, p: Place, m
     q
 }
 
-// The largest of the place p and the smaller ones of its name that the row of the element e after the place u has, or 0. Where there is no
-// such place it is told at once, before the row is looked for.
+// The largest of the place p and the smaller ones of its name that the row of the element e after the place u
+// has, or 0. Where there is no such place it is told at once, before the row is looked for.
 pub fn largest(rows: &[u8; ROWS], places: &[u8; PLACES], e: ElementNo, u: Place, p: Place) -> Place
     requires { (e.0 ≤ element_limit) × (u.0 ≤ GRPGTCNT) × (p.0 ≤ GRPGTCNT) }
     ensures { Largest (RowSays rows.now e.0 u.0) places.now e.0 p.0 result.0 }

@@ -30,7 +30,8 @@ use layout::{
 // What a place is raised by in a model with "&", as a byte of the tables.
 const RAISED: u8 = RAISE as u8;
 
-// A type as it is read again: how long its names may be, its file, the records of its elements with the index of their names, and their lists.
+// A type as it is read again: how long its names may be, its file, the records of its elements with the index
+// of their names, and their lists.
 #[derive(Clone, Copy)]
 struct Source<'a> {
     long: usize,
@@ -86,7 +87,8 @@ fn put_document(rows: &mut [u8; ROWS], places: &mut [u8; PLACES], facts: &mut [u
 // What the place p of the model whose names are in `names` names: an element, `PCDATA`, 0 if that is not declared.
 fn name(t: Source, names: &[u32; NAMES], p: Place) -> ElementNo
     requires { (1 ≤ p.0) × (p.0 ≤ GRPGTCNT) × IsName t.s.now (place_in names.now (p.0 - 1)) }
-    ensures result_value { (es : List Element) → Indexed t.entry.s.now es t.entry.elements.now t.entry.index.now →
+    ensures result_value { (es : List Element) → Indexed t.entry.s.now es t.entry.elements.now
+        t.entry.index.now →
         result.0 ≡ name_of t.entry.s.now es (place_in names.now (p.0 - 1)) }
     ensures result_bound { (result.0 ≤ 255) × (slot_of result.0 ≤ element_limit) }
 {
@@ -165,7 +167,8 @@ fn raise_facts(facts: &mut [u8; FACTS], e: ElementNo)
 }
 
 // The element e: its declaration is read again from its name on, which fills `names` and `table`.
-// Kept: the four tables one by one: (plainer) a struct of `&mut` would need in each contract here that each field stays the same reference.
+// Kept: the four tables one by one: (plainer) a struct of `&mut` would need in each contract here that each
+// field stays the same reference.
 fn put_element(
     t: Source,
     rows: &mut [u8; ROWS],
@@ -176,8 +179,10 @@ fn put_element(
     names: &mut [u32; NAMES],
     table: &mut [u8; MODEL],
 )
-    requires { ElementDue t.long t.s.now (elements_of t.long t.s.now) t.elements.now t.lists.now t.index.now rows.old places.old facts.old members.old e.0 }
-    ensures { Filled t.entry.s.now (elements_of t.entry.long t.entry.s.now) rows.new places.new facts.new members.new (e.0 + 1) }
+    requires { ElementDue t.long t.s.now (elements_of t.long t.s.now) t.elements.now t.lists.now t.index.now
+        rows.old places.old facts.old members.old e.0 }
+    ensures { Filled t.entry.s.now (elements_of t.entry.long t.entry.s.now) rows.new places.new facts.new
+        members.new (e.0 + 1) }
 {
     put_facts(t, facts, e);
     let at = element_index::offset(t.elements, e);
@@ -200,9 +205,11 @@ fn put_element(
     member_sets::fill(members, e, table, m.code);
 }
 
-// Fills the tables, which are all 0, from an accepted type file whose elements are recorded in `elements`. Where no "&" stands in it there need be no table
-// of members. What they then hold for numbers past the type's elements and past a model's places is not decided: the state never stands there.
-// Kept: ten parameters: (plainer) as with `put_element`, and those that are read come from callers one by one.
+// Fills the tables, which are all 0, from an accepted type file whose elements are recorded in `elements`.
+// Where no "&" stands in it there need be no table of members. What they then hold for numbers past the
+// type's elements and past a model's places is not decided: the state never stands there.
+// Kept: ten parameters: (plainer) as with `put_element`, and those that are read come from callers one by
+// one.
 pub fn fill(
     long: usize,
     s: &[u8],
