@@ -17,12 +17,12 @@ returns-then-is_offered c =
 
 pub returns-then-are_fit : goal.returns-then-are_fit
 returns-then-are_fit c =
-    record { batched = Batched.none_offered c.if-are_fit.ensures (sym c.is_offered.ensures ∙ c.if-is_offered.false) (ap (λ (x : Refused). answer_of (Err x)) c.refused.ensures) c.read_all.ensures; answer_fits = ? }
+    record { batched = Batched.none_offered c.if-are_fit.ensures (sym c.is_offered.ensures ∙ c.if-is_offered.false) (ap (λ (x : Refused). answer_of (Err x)) c.refused.ensures) c.read_all.ensures; answer_fits = rw c.refused.ensures (omega arith) }
 
 pub returns-then-is_offered-2 : goal.returns-then-is_offered-2
 returns-then-is_offered-2 c =
-    record { batched = Batched.unfit c.if-are_fit.ensures (sym c.is_offered-2.ensures ∙ c.if-is_offered-2.true) (ap (λ (x : Refused). answer_of (Err x)) c.refused-then-is_offered-2.ensures) refl (c.fill.ensures.after (λ y e. e)); answer_fits = ? }
+    record { batched = Batched.unfit c.if-are_fit.ensures (sym c.is_offered-2.ensures ∙ c.if-is_offered-2.true) (ap (λ (x : Refused). answer_of (Err x)) c.refused-then-is_offered-2.ensures) refl (c.fill.ensures.after (λ y e. e)); answer_fits = rw c.refused-then-is_offered-2.ensures (omega arith) }
 
 pub returns : goal.returns
 returns c =
-    record { batched = Batched.not_offered c.if-are_fit.ensures (sym c.is_offered-2.ensures ∙ c.if-is_offered-2.false) (ap (λ (x : Refused). answer_of (Err x)) c.refused-2.ensures) refl (c.fill.ensures.after (λ y e. e)); answer_fits = ? }
+    record { batched = Batched.not_offered c.if-are_fit.ensures (sym c.is_offered-2.ensures ∙ c.if-is_offered-2.false) (ap (λ (x : Refused). answer_of (Err x)) c.refused-2.ensures) refl (c.fill.ensures.after (λ y e. e)); answer_fits = rw c.refused-2.ensures (omega arith) }

@@ -11,11 +11,11 @@ loop-i-init c =
     let a = c.args in
     done_none Lent.bytes (settings a.t.long a.t.edition) a.t.file.now a.p.string.now (batch_of a.p.starts.now a.p.lengths.now a.p.froms.now a.p.sizes.now) a.bytes.now a.answers.now
 
-pub bounds-froms-i : goal.bounds-froms-i
-bounds-froms-i c = let a = c.args in omega (arith, (fit_equal (batch_of a.p.starts.now a.p.lengths.now a.p.froms.now a.p.sizes.now) (length a.answers.now) (length a.bytes.now) c.requires.fact).froms_equal)
+pub bounds-p-i : goal.bounds-p-i
+bounds-p-i c = let a = c.args in omega (arith, (fit_equal (batch_of a.p.starts.now a.p.lengths.now a.p.froms.now a.p.sizes.now) (length a.answers.now) (length a.bytes.now) c.requires.fact).froms_equal)
 
-pub bounds-sizes-i : goal.bounds-sizes-i
-bounds-sizes-i c = let a = c.args in omega (arith, (fit_equal (batch_of a.p.starts.now a.p.lengths.now a.p.froms.now a.p.sizes.now) (length a.answers.now) (length a.bytes.now) c.requires.fact).sizes_equal)
+pub bounds-p-i-in-loop-i : goal.bounds-p-i-in-loop-i
+bounds-p-i-in-loop-i c = let a = c.args in omega (arith, (fit_equal (batch_of a.p.starts.now a.p.lengths.now a.p.froms.now a.p.sizes.now) (length a.answers.now) (length a.bytes.now) c.requires.fact).sizes_equal)
 
 pub overflow_add-end : goal.overflow_add-end
 overflow_add-end c =
@@ -23,8 +23,8 @@ overflow_add-end c =
     let within = fit_within (batch_of a.p.starts.now a.p.lengths.now a.p.froms.now a.p.sizes.now) (length a.answers.now) (length a.bytes.now) c.requires.fact c.loop-i.i c.loop-i-test.true in
     omega (arith, within, c.loop-i.invariant.same)
 
-pub bounds-lengths-i : goal.bounds-lengths-i
-bounds-lengths-i c = let a = c.args in omega (arith, (fit_equal (batch_of a.p.starts.now a.p.lengths.now a.p.froms.now a.p.sizes.now) (length a.answers.now) (length a.bytes.now) c.requires.fact).lengths_equal)
+pub bounds-p-i-in-loop-i-3 : goal.bounds-p-i-in-loop-i-3
+bounds-p-i-in-loop-i-3 c = let a = c.args in omega (arith, (fit_equal (batch_of a.p.starts.now a.p.lengths.now a.p.froms.now a.p.sizes.now) (length a.answers.now) (length a.bytes.now) c.requires.fact).lengths_equal)
 
 -- The document's stretch ends within the buffer.
 pub slice_bounds-read_part-end : goal.slice_bounds-read_part-end
@@ -40,9 +40,6 @@ put_answer-requires c =
     let few = fit_few (batch_of a.p.starts.now a.p.lengths.now a.p.froms.now a.p.sizes.now) (length a.answers.now) (length a.bytes.now) c.requires.fact in
     let equal = fit_equal (batch_of a.p.starts.now a.p.lengths.now a.p.froms.now a.p.sizes.now) (length a.answers.now) (length a.bytes.now) c.requires.fact in
     (c.read_part-a.ensures.answer_fits, omega (arith, few, c.loop-i-test.true), omega (arith, equal.answers_equal, c.loop-i.invariant.answers_same))
-
-pub overflow_add-i : goal.overflow_add-i
-overflow_add-i c = let a = c.args in omega (arith, fit_few (batch_of a.p.starts.now a.p.lengths.now a.p.froms.now a.p.sizes.now) (length a.answers.now) (length a.bytes.now) c.requires.fact, c.loop-i-test.true)
 
 pub loop-i-preserved : goal.loop-i-preserved
 loop-i-preserved c =

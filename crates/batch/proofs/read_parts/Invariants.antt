@@ -6,4 +6,4 @@ use Rattle.batch.specs.Turns.{Done}
 use Rattle.batch.proofs.read_parts.Given as goal
 
 abbrev pub invariant-loop-i : goal.invariant-loop-i
-invariant-loop-i l = Done Lent.bytes (settings l.t.long l.t.edition) l.t.file l.p.string (batch_of l.p.starts l.p.lengths l.p.froms l.p.sizes) l.initial.bytes l.initial.answers l.i l.bytes l.answers
+invariant-loop-i l = Done Lent.bytes (settings l.t.long l.t.edition) l.t.file.now l.p.string.now (batch_of l.p.starts.now l.p.lengths.now l.p.froms.now l.p.sizes.now) l.initial.bytes l.initial.answers l.i l.bytes l.answers
