@@ -200,7 +200,8 @@ module _ (s : List ℕ) (lo : ℕ) (T : List ℕ) (n d : ℕ) (names table : Lis
 
 -- Two groups are joined by a connector.
 
--- What the code makes of the connector: the part that is kept, where the "&" stands that it is, or that the second has, and its number in the code.
+-- What the code makes of the connector: the part that is kept, where the "&" stands that it is, or that the
+-- second has, and its number in the code.
 module _ (b i lo : ℕ) (m u : Model) (T R : List ℕ) (v : Part × ℕ × ℕ) where
   abbrev Joint : Type 0
   Joint = (v ≡ (join_part b m.part u.part, (elim (eqb b AND) [ true ↦ i | false ↦ u.and ]), join_number b)) × (R ≡ join_rows b lo m u T)

@@ -10,7 +10,8 @@ ghost use Rattle.connectors.specs.Grown.{opt_model, opt_table, plus_model, plus_
 use layout::MODEL;
 use model_table::Part;
 
-// How much of a model was read: how many places and content tokens it has so far, and how many numbers its code has.
+// How much of a model was read: how many places and content tokens it has so far, and how many numbers its code
+// has.
 #[derive(Clone, Copy)]
 pub struct Counts {
     pub places: usize,
@@ -20,7 +21,8 @@ pub struct Counts {
 
 // What is kept of a model while it is read: where it ends so far, how many places and content tokens it has, what
 // its table goes on with, how many numbers its code has, and where the first "&" of the group stands and the first that is refused, or 0.
-// Kept: 0 is none, as in the rules' `earlier` (fixed): with an Option, `joined_by` would ask that no "&" stands at 0, which it does not.
+// Kept: 0 is none, as in the rules' `earlier` (fixed): with an Option, `joined_by` would ask that no "&" stands at
+// 0, which it does not.
 #[derive(Drop)]
 pub struct Model {
     pub at: usize,

@@ -14,8 +14,8 @@ use connectors::{Counts, Model};
 use layout::{MODEL, NAMES};
 use text::{Fault, Reading, Refusal};
 
-// A name as content token, at most `long` bytes long, of a model that had so much. Where it is refused, what `names` and `table` hold is not decided; nor is, here and
-// below, what they hold behind the places that were read.
+// A name as content token, at most `long` bytes long, of a model that had so much. Where it is refused, what
+// `names` and `table` hold is not decided; nor is, here and below, what they hold behind the places that were read.
 pub fn name_token(
     long: usize,
     s: &[u8],
@@ -27,7 +27,8 @@ pub fn name_token(
 ) -> Reading<Model>
     requires at_in_bounds { (at ≤ length s.now) × (length s.now ≤ type_limit) }
     requires places_le_tokens { (had.places ≤ had.tokens) × (full ≡ false → had.tokens < GRPGTCNT) }
-    ensures { Meets (length s.now) (begun (had.places + 1) table.old had.code (4 * had.tokens + 3)) names.new table.new result
+    ensures { Meets (length s.now) (begun (had.places + 1) table.old had.code (4 * had.tokens + 3))
+        names.new table.new result
         (name_token long s.now at full (places_of names.old had.places) had.tokens) }
 {
     let e = text::name_end(s, at);
@@ -76,7 +77,8 @@ pub fn data_token(
 ) -> Reading<Model>
     requires at_in_bounds { (at < length s.now) × (length s.now ≤ type_limit) }
     requires places_le_tokens { (had.places ≤ had.tokens) × (full ≡ false → had.tokens < GRPGTCNT) }
-    ensures { Meets (length s.now) (begun (had.places + 1) table.old had.code (4 * had.tokens + 3)) names.new table.new result
+    ensures { Meets (length s.now) (begun (had.places + 1) table.old had.code (4 * had.tokens + 3))
+        names.new table.new result
         (data_token s.now at full (places_of names.old had.places) had.tokens) }
 {
     let b = text::byte(s, at + 1);

@@ -54,7 +54,8 @@ fn token_at(
 ) -> Reading<Model>
     requires at_in_bounds { (at ≤ length s.now) × (length s.now ≤ type_limit) }
     requires places_le_tokens { (had.places ≤ had.tokens) × (full ≡ false → had.tokens < GRPGTCNT) }
-    ensures { Meets (length s.now) (begun (had.places + 1) table.old had.code (4 * had.tokens + 3)) names.new table.new result
+    ensures { Meets (length s.now) (begun (had.places + 1) table.old had.code (4 * had.tokens + 3))
+        names.new table.new result
         (token long (group long levels s.now) s.now at full (places_of names.old had.places) had.tokens) }
 {
     let b = text::byte(s, at);
@@ -146,7 +147,8 @@ pub fn group_at(
 ) -> Reading<Model>
     requires at_in_bounds { (at < length s.now) × (length s.now ≤ type_limit) }
     requires places_le_tokens { (had.places ≤ had.tokens) × (had.tokens ≤ GRPGTCNT) }
-    ensures { Meets (length s.now) (begun (had.places + 1) table.old had.code (4 * had.tokens + 2)) names.new table.new result
+    ensures { Meets (length s.now) (begun (had.places + 1) table.old had.code (4 * had.tokens + 2))
+        names.new table.new result
         (group long levels s.now at (places_of names.old had.places) had.tokens) }
 {
     if levels == 0 {

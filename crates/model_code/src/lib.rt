@@ -11,7 +11,8 @@ ghost use Rattle.model_code.specs.Six.{put_code, code_next, six, then_six, eithe
 
 use layout::{CODE, MODEL, MODEL_ROWS, POSITIONS};
 
-// Kept: these numbers of kinds are no enum (fixed): a byte of the code holds a place, or one of them, or how many members an "&" group has.
+// Kept: these numbers of kinds are no enum (fixed): a byte of the code holds a place, or one of them, or how
+// many members an "&" group has.
 
 // The two groups before are joined by ",". Every number below this one is a place.
 pub const SEQ_CODE: u8 = POSITIONS as u8;

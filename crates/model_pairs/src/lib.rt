@@ -56,7 +56,8 @@ fn beside(table: &[u8; MODEL], n: usize, p: usize) -> [bool; POSITIONS]
     set
 }
 
-// A model that was read: the type file, the names of its n places, its table, how many numbers of code it has, and whether it has an "&".
+// A model that was read: the type file, the names of its n places, its table, how many numbers of code it has, and
+// whether it has an "&".
 #[derive(Clone, Copy)]
 struct Whole<'a> {
     s: &'a [u8],
@@ -69,7 +70,8 @@ struct Whole<'a> {
 
 // Whether p and q, which some row has both, can both come next after one beginning. Without "&" the last place decides, so they can.
 fn is_fault(m: Whole, p: usize, q: usize) -> bool
-    ensures { (m.entry.and ≡ false → result ≡ true) × (m.entry.and ≡ true → Told m.entry.table.now p q m.entry.code result) }
+    ensures { (m.entry.and ≡ false → result ≡ true)
+        × (m.entry.and ≡ true → Told m.entry.table.now p q m.entry.code result) }
 {
     !m.and || model_code::clash(m.table, m.code, p, q)
 }
@@ -77,9 +79,11 @@ fn is_fault(m: Whole, p: usize, q: usize) -> bool
 // The first place after p that is at fault with it.
 fn partner(m: Whole, keys: &[u32; POSITIONS], p: usize) -> Option<usize>
     requires n_bound { (m.n ≤ GRPGTCNT) × (1 ≤ p) × (p ≤ m.n) }
-    requires by_index { (x : ℕ) → 1 ≤ x → x ≤ m.n → get_or keys.now x 0 ≡ key_of m.s.now (place_in m.names.now (x - 1)) }
+    requires by_index { (x : ℕ) → 1 ≤ x → x ≤ m.n →
+        get_or keys.now x 0 ≡ key_of m.s.now (place_in m.names.now (x - 1)) }
     ensures by_index_2 { (F : ℕ → ℕ → Bool) → Tells m.entry.table.now m.entry.n m.entry.code m.entry.and F →
-        unwrap_or result 0 ≡ find_from (fault_in m.entry.s.now m.entry.names.now F m.entry.n p) (m.entry.n - p) (suc p) }
+        unwrap_or result 0
+        ≡ find_from (fault_in m.entry.s.now m.entry.names.now F m.entry.n p) (m.entry.n - p) (suc p) }
     ensures fact { IfSome result (λ q. (p < q) × (q ≤ m.entry.n)) }
 {
     if !same_names::shares_key(keys, m.n, p) {
@@ -106,7 +110,8 @@ pub fn first_pair(
     and: bool,
 ) -> Option<Pair>
     requires { n ≤ GRPGTCNT }
-    ensures by_index { (F : ℕ → ℕ → Bool) → Tells table.now n code and F → numbers_of result ≡ search_pair (fault_in s.now names.now F n) n }
+    ensures by_index { (F : ℕ → ℕ → Bool) → Tells table.now n code and F →
+        numbers_of result ≡ search_pair (fault_in s.now names.now F n) n }
     ensures fact { IfSome result (λ r. (1 ≤ r.first) × (r.first < r.second) × (r.second ≤ n)) }
 {
     let keys = same_names::keys_of(s, names, n);

@@ -20,7 +20,8 @@ fn cell(table: &[u8; MODEL], i: usize) -> u8
 }
 
 // Eight numbers of a model's table as bits, the first the lowest.
-// Kept: eight terms and no loop (plainer): a sum over 0..8 would need a bound on each partial sum, and reads no shorter.
+// Kept: eight terms and no loop (plainer): a sum over 0..8 would need a bound on each partial sum, and reads no
+// shorter.
 #[tactic(auto, unfolding(crate::specs::Bits::packed_of))]
 fn packed(table: &[u8; MODEL], i: usize) -> u8
     requires { i + 8 ≤ MODEL }
