@@ -23,7 +23,7 @@ pub fn dashes_at(s: &[u8], i: usize) -> bool
     requires { i < length s.now }
     ensures { result ≡ at_dashes s.now (i + 2) }
 {
-    text::byte(s, i + 2) == b'-' && text::byte(s, i + 2 + 1) == b'-'
+    text::at_dashes(s, i + 2)
 }
 
 // Whether `<!` before the byte b is a form that is left out.

@@ -36,11 +36,6 @@ module _ (s elements attributes : List ℕ) (total : ℕ) (numbers : List ℕ) (
   abbrev pub all_lines : List ℕ
   all_lines = lines_from s elements attributes total numbers n 0
 
-  pub lines_start : (before : List ℕ) (at : ℕ) → at ≤ length before → Lines before at before at (lines_left 0) all_lines
-  lines_start before at h =
-      let z : n - 0 ≡ n = omega arith in
-      record { same = refl; ends = rw z; within = h; text_is = rw z }
-
   lines_next : (i : ℕ) → i < n → lines_left i ≡ line_at s elements attributes total numbers i n ++ lines_left (i + 1)
   unfolding lines_from
   lines_next i h =

@@ -9,21 +9,13 @@ ghost use Rattle.gaps.specs.Unfit.{unfit_at};
 
 use text::{Fault, Reading, Refusal};
 
-// Whether `--` stands at a position.
-fn at_dashes(s: &[u8], at: usize) -> bool
-    requires { at ≤ length s.now }
-    ensures { result ≡ at_dashes s.now at }
-{
-    text::byte(s, at) == b'-' && text::byte(s, at + 1) == b'-'
-}
-
 // The first `--` from `at` on, or the input's length.
 fn to_dashes(s: &[u8], at: usize) -> usize
     requires { at ≤ length s.now }
     ensures { result ≡ at + before_dashes (drop at s.now) }
 {
     for i in at..s.len() {
-        if at_dashes(s, i) {
+        if text::at_dashes(s, i) {
             return i;
         }
     }
@@ -36,7 +28,8 @@ fn gap_on(s: &[u8], at: usize) -> Reading<usize>
     ensures { reached result ≡ gap_on (length s.now) s.now at }
 {
     let mut i = at;
-    while at_dashes(s, i) {
+    // Kept: a turn goes on behind a whole comment, so the turns are no count (plainer).
+    while text::at_dashes(s, i) {
         let e = to_dashes(s, i + 2);
         if s.len() <= e {
             return Err(Refusal::Malformed.at(s.len()));

@@ -16,9 +16,6 @@ pub record Looked (d : List ℕ) (bad i : ℕ) : Type 0 where
   pub none : bad ≡ 0 → i + span allowed (drop i d) ≡ span allowed d
   pub some : 1 ≤ bad → span allowed d < length d
 
-pub looked_none : (d : List ℕ) → Looked d 0 0
-looked_none d = record { here = omega arith; none = λ e. omega arith; some = λ h. omega arith }
-
 -- One byte more, of which x says whether it fails: what is kept is the larger of the two.
 pub looked_turn : (d : List ℕ) (bad i x : ℕ) → Looked d bad i → i < length d → x ≡ failing (allowed (byte_at d i)) → Looked d (max bad x) (i + 1)
 unfolding allowed

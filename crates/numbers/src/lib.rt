@@ -39,7 +39,7 @@ pub fn put_number(buffer: &mut [u8], i: usize, x: u32)
 }
 
 // Kept: two functions, since one copies the numbers and the other spreads each over four bytes; a type parameter would
-// only choose between the two bodies (plainer).
+// only choose between the two bodies. A table goes with how much of it is filled, as its callers have it (plainer).
 //
 // The first n numbers of a table, at the start of a buffer.
 pub fn put_numbers(buffer: &mut [u32], table: &[u32], n: usize)

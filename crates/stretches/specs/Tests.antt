@@ -1,18 +1,9 @@
 -- Laws of the tests of stretches: what one of them leaves for the whole.
-use Rattle.std.specs.Prelude.{ℕ, ◌+◌, ◌-◌, ◌≤◌, ◌<◌, ◌≡◌, refl, Bool, true, false, List, length, get_or, leb}
-use Rattle.std.proofs.Common.{sym, arith, le-leb, leb-true, leb-false}
+use Rattle.std.specs.Prelude.{ℕ, ◌+◌, ◌≤◌, ◌<◌, ◌≡◌, refl, Bool, true, false, List, length, get_or, leb}
+use Rattle.std.proofs.Common.{sym, arith, leb-true, leb-false}
 use Rattle.std.proofs.Math.Decide.{ℕ_discrete}
-use Rattle.std.proofs.lemmas.Bool.{lt-leb}
 use Rattle.rules.specs.Batch.{Equal, Unfit, batch_limit}
 use Rattle.stretches.specs.Fit.{Apart, AllWithin, Shared, ApartFrom, AllApart, batch_of, Fits}
-
--- What is left behind the start is as much as the stretch has.
-pub left_behind : (from size room : ℕ) → from ≤ room → leb size (room - from) ≡ leb (from + size) room
-left_behind from size room h = by_test (leb size (room - from)) refl
-  where
-    by_test : (b : Bool) → leb size (room - from) ≡ b → b ≡ leb (from + size) room
-    by_test true z = sym (le-leb (from + size) room (omega (arith, leb-true size (room - from) z)))
-    by_test false z = sym (lt-leb (from + size) room (omega (arith, leb-false size (room - from) z)))
 
 -- The second begins at the end of the first, or behind it; or the first does so to the second, or they share a number.
 pub apart_by : (from size other its : ℕ) (b : Bool) → (size ≡ 0 → ⊥) → (its ≡ 0 → ⊥) → other < from + size → b ≡ leb (other + its) from → Apart from size other its b
@@ -25,17 +16,6 @@ apart_by from size other its b s t h e = by_test b (sym e)
         by_order : (q : Bool) → leb from other ≡ q → Apart from size other its false
         by_order true w = (other, (leb-true from other w, h), (omega arith, omega arith))
         by_order false w = (from, (omega arith, omega arith), (omega (arith, leb-false from other w), leb-false (other + its) from z))
-
-pub apart_behind : (from size other its : ℕ) → from + size ≤ other → Apart from size other its true
-apart_behind from size other its h k x y = omega (arith, x.1, y.0)
-
--- One more ends within; one does not.
-pub within_turn : (froms sizes : List ℕ) (room n : ℕ) → AllWithin froms sizes room n true → get_or froms n 0 + get_or sizes n 0 ≤ room → AllWithin froms sizes room (n + 1) true
-within_turn froms sizes room n h e i l = go (ℕ_discrete i n)
-  where
-    go : Dec (i ≡ n) → get_or froms i 0 + get_or sizes i 0 ≤ room
-    go (yes z) = rw z e
-    go (no z) = h i (omega arith)
 
 -- One more is apart from the i-th.
 pub apart_turn : (froms sizes : List ℕ) (i n : ℕ) → ApartFrom froms sizes i n true → Apart (get_or froms n 0) (get_or sizes n 0) (get_or froms i 0) (get_or sizes i 0) true → ApartFrom froms sizes i (n + 1) true

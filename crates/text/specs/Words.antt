@@ -1,12 +1,12 @@
 -- Laws of the rules' words: bytes, names, separators, comments and gaps.
-use Rattle.std.specs.Prelude.{ℕ, Result, Ok, Err, IsErrAnd, zero, suc, ◌+◌, ◌-◌, ◌≤◌, ◌<◌, ◌≡◌, refl, Bool, true, false, not, ◌||◌, cond, List, [], ◌∷◌, length, drop, eqb, ltb}
+use Rattle.std.specs.Prelude.{ℕ, Result, Ok, Err, IsErrAnd, zero, suc, ◌+◌, ◌-◌, ◌≤◌, ◌<◌, ◌≡◌, refl, Bool, true, false, not, cond, List, [], ◌∷◌, length, drop, eqb, ltb}
 use Rattle.std.proofs.Math.Path.{sym}
 use Rattle.std.proofs.Common.{ap, ◌∙◌, true≢false, arith, add-one, add-zero, zero-add, suc-add, add_assoc, not-suc-le-zero, le_of_suc-le-suc, length-drop, drop_of_length-le, eq-eqb, eqb-true, lt-ltb, le-ltb, ltb-true, ltb-false, ne_eqb}
 use Rattle.std.proofs.Math.Nat.{sub-zero}
 use Rattle.std.proofs.lemmas.Bool.{not-true, not-false, eqb-false}
 use Rattle.basic_laws.specs.Truth.{and_left, and_right}
 use Rattle.rules.specs.Reading.{Reading, refused, got}
-use Rattle.rules.specs.Bytes.{byte_at, allowed, separator, letter, name_byte, fold, span, name_end, separators_end, same_text, MDC, MINUS, PERO}
+use Rattle.rules.specs.Bytes.{byte_at, separator, letter, name_byte, fold, span, name_end, separators_end, same_text, MDC, MINUS, PERO}
 use Rattle.rules.specs.TypeFile.{at_dashes, before_dashes, gap_within, gap, comment_close, comment_declaration, is_word}
 use Rattle.text.specs.Refusal.{refusal_of, reading, reached}
 use Rattle.text.specs.declared.Fault.{Fault}
@@ -29,25 +29,6 @@ test_in t z (x ∷ xs) (suc i) e = omega (arith, test_in t z xs i e)
 pub letter_in : (s : List ℕ) (i : ℕ) → letter (byte_at s i) ≡ true → i < length s
 unfolding letter
 letter_in = test_in letter refl
-
-pub name_byte_in : (s : List ℕ) (i : ℕ) → name_byte (byte_at s i) ≡ true → i < length s
-unfolding name_byte letter
-name_byte_in = test_in name_byte refl
-
-pub separator_in : (s : List ℕ) (i : ℕ) → separator (byte_at s i) ≡ true → i < length s
-unfolding separator
-separator_in = test_in separator refl
-
-pub allowed_in : (s : List ℕ) (i : ℕ) → allowed (byte_at s i) ≡ true → i < length s
-unfolding allowed
-allowed_in = test_in allowed refl
-
--- What the code's `||` leaves in its flag, each way.
-pub or_taken : (f g r : Bool) → f ≡ true → r ≡ f → r ≡ (f || g)
-or_taken f g r e q = rw (q, e)
-
-pub or_passed : (f g r : Bool) → f ≡ false → r ≡ g → r ≡ (f || g)
-or_passed f g r e q = rw (e, q)
 
 -- What the code's test of a byte that it read says.
 pub tested : (t : ℕ → Bool) {x b : ℕ} {r v : Bool} → b ≡ x → r ≡ t b → r ≡ v → t x ≡ v
@@ -427,9 +408,6 @@ same_text_all s a t b n k h =
     let l : n - k ≡ 0 = omega arith in
     rw l
 
--- A word of the size that was read, and one of another.
-pub is_word_same : (s : List ℕ) (at end : ℕ) (w : List ℕ) → end - at ≡ length w → is_word s at end w ≡ same_text s at w 0 (end - at)
-is_word_same s at end w e = rw (eq-eqb _ _ e, is_word) (ap (same_text s at w 0) (sym e))
-
+-- A word of another size than was read.
 pub is_word_other : (s : List ℕ) (at end : ℕ) (w : List ℕ) → (end - at ≡ length w → ⊥) → is_word s at end w ≡ false
 is_word_other s at end w e = rw (ne_eqb _ _ e, is_word)

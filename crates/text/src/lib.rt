@@ -3,6 +3,7 @@
 
 ghost use Rattle.std.specs.Prelude.{◌≡◌, ℕ, Bool, ◌+◌, ◌≤◌, ◌<◌, length, drop};
 ghost use Rattle.rules.specs.Bytes.{byte_at, allowed, separator, letter, name_byte, fold, span, name_end, separators_end};
+ghost use Rattle.rules.specs.TypeFile.{at_dashes};
 ghost use Rattle.text.specs.Refusal.{fault_at};
 
 // Why an input is refused.
@@ -62,6 +63,14 @@ pub fn byte(s: &[u8], at: usize) -> u8
     ensures { result ≡ byte_at s.now at }
 {
     if at < s.len() { s[at] } else { 0 }
+}
+
+// Whether `--` stands at a position.
+pub fn at_dashes(s: &[u8], at: usize) -> bool
+    requires { at ≤ length s.now + 1 }
+    ensures { result ≡ at_dashes s.now at }
+{
+    byte(s, at) == b'-' && byte(s, at + 1) == b'-'
 }
 
 // Whether a byte may stand in an input at all.

@@ -6,9 +6,6 @@ use Rattle.text.specs.Words.{separators_end_from, separators_end_le, dashes_in, 
 use Rattle.text.specs.Words.{gap_on_open, gap_on_percent, gap_on_end, gap_turn}
 use Rattle.gaps.proofs.gap_on.Goals as goal
 
-pub at_dashes-requires : goal.at_dashes-requires
-at_dashes-requires c = c.loop-e.invariant.0
-
 pub overflow_add-i : goal.overflow_add-i
 overflow_add-i c = omega (arith, dashes_in c.args.s.now c.loop-e.i (sym c.at_dashes.ensures ∙ c.loop-e-test.true))
 
