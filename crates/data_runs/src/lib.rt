@@ -107,7 +107,7 @@ fn plain_end(classes: &[u8; 256], s: &[u8], at: usize) -> usize
     ensures { (at ≤ result) × (result ≤ length s.now) × (run_end s.now result ≡ run_end s.now at) }
 {
     let mut i = at;
-    // Kept: eight bytes a turn. One a turn took twice as long, and `position` nearly three times (tried-speed).
+    // Kept: eight bytes a turn. One a turn took twice as long, `position` nearly three times (tried-speed).
     while i + 8 <= s.len() {
         let k = plain_eight(classes, s, i);
         i += k;

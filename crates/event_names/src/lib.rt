@@ -6,7 +6,8 @@ ghost use Rattle.rules.specs.Bytes.{ATTCNT, element_limit, SPACE};
 ghost use Rattle.rules.specs.Printed.{word, program_name_length};
 ghost use Rattle.layout.specs.Sizes.{PROGRAM_EVENTS};
 ghost use Rattle.line_text.specs.Adds.{Adds};
-ghost use Rattle.event_names.specs.Names.{Fits, FitsAttributes, name_in, starts_at, RecordFound, attribute_in, named_at};
+ghost use Rattle.event_names.specs.Names.{Fits, FitsAttributes};
+ghost use Rattle.event_names.specs.Names.{name_in, starts_at, RecordFound, attribute_in, named_at};
 
 use layout::{ATTRIBUTE_RECORD, ATTRIBUTE_RECORDS, EVENT, PROGRAM_ROOM, RECORD, RECORDS};
 use line_text::Line;
@@ -22,7 +23,8 @@ pub struct Events<'a> {
     pub ghost few: { count ≤ PROGRAM_EVENTS },
 }
 
-// The names of a type: the type file, the records of its elements, and those of its attributes (crate attribute_records), `total` of them.
+// The names of a type: the type file, the records of its elements, and those of its attributes (crate attribute_records),
+// `total` of them.
 #[derive(Clone, Copy)]
 pub struct Names<'a> {
     pub s: &'a [u8],
@@ -50,7 +52,7 @@ fn counted(x: u32) -> u32
 
 impl<'a> Events<'a> {
     // The number of the element that starts next, at the event k or behind it; 0 if none does.
-    // Kept: 0 for none is the rules' own number there (`starts_next` of `Printed`), and is read on as one.
+    // Kept: 0 for none is the rules' own answer (fixed: `starts_next` of `Printed`), and is read on as a number.
     fn starts_next(self, k: usize) -> u32
         ensures { result ≡ starts_at self.entry.numbers.now k self.entry.count }
     {
@@ -69,7 +71,8 @@ impl<'a> Names<'a> {
     fn put_name(self, line: &mut Line, x: u32)
         requires { line.old.at + program_name_length + 1 ≤ length line.old.out.now }
         ensures same_reference { line.new.out.ghost_name ≡ line.old.out.ghost_name }
-        ensures adds { Adds line.old.out.now line.old.at line.new.out.now line.new.at (word (name_in self.entry.s.now self.entry.elements.now x) SPACE) }
+        ensures adds { Adds line.old.out.now line.old.at line.new.out.now line.new.at
+            (word (name_in self.entry.s.now self.entry.elements.now x) SPACE) }
         ensures short { line.new.at ≤ line.old.at + program_name_length + 1 }
     {
         if x == 0 {

@@ -35,7 +35,8 @@ fn unfit(b: u8) -> u8
 }
 
 // Whether all bytes are allowed.
-// Kept: `all` would stop at the first that is not, and so look at one at a time; this looks at many at a time (tried-speed).
+// Kept: a search that stops at the first that is not looks at one byte at a time, which took three times as long
+// (tried-speed).
 pub fn all_allowed(d: &[u8]) -> bool
     ensures { result ≡ is_clean d.now }
 {

@@ -161,7 +161,7 @@ pub const ATTRIBUTE_RECORD: usize = 9;
 
 pub const ATTRIBUTE_RECORDS: usize = ATTRIBUTE_RECORD * ATTCNT * ELEMENTS;
 
-// Kept: in these three 0 stands for none, as in the cells of the tables, which hold them as bare numbers (fixed: no heap).
+// Kept: in these three 0 stands for none, as in the cells of the tables, which hold bare numbers (fixed: fixed memory).
 //
 // A place of a content model, from 1, or 0 for none: at the start of the content none is taken yet.
 #[derive(Clone, Copy)]

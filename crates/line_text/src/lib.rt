@@ -1,4 +1,5 @@
-// Words put into a buffer one behind another. What the buffer holds behind the line's end is not decided; what stands before it stays.
+// Words put into a buffer one behind another. What the buffer holds behind the line's end is not decided; what stands
+// before it stays.
 #![tactic(auto)]
 
 ghost use Rattle.std.specs.Prelude.{◌≡◌, [], ◌∷◌, ◌+◌, ◌≤◌, ◌<◌, length};

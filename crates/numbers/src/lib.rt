@@ -38,8 +38,8 @@ pub fn put_number(buffer: &mut [u8], i: usize, x: u32)
     buffer[i..i + 4].copy_from_slice(&x.to_le_bytes());
 }
 
-// Kept: two functions, since one copies the numbers and the other spreads each over four bytes; a type parameter would
-// only choose between the two bodies. A table goes with how much of it is filled, as its callers have it (plainer).
+// Kept: two functions, since one copies the numbers and the other spreads each over four bytes; a type parameter
+// would only choose between the two bodies. A table goes with how much of it is filled (fixed: fixed memory).
 //
 // The first n numbers of a table, at the start of a buffer.
 pub fn put_numbers(buffer: &mut [u32], table: &[u32], n: usize)
