@@ -1,6 +1,6 @@
 -- Laws of the text of events and of a refusal.
 use Prim.Native.Nat.{ℕ, suc, ◌+◌, ◌-◌, ◌*◌, ◌≤◌, ◌<◌}
-use Rattle.std.specs.Prelude.{◌≡◌, refl, take, get_or}
+use Rattle.std.specs.Prelude.{◌≡◌, take, get_or}
 use Rattle.std.proofs.Math.Path.{sym, ap}
 use Rattle.std.proofs.Common.{◌∙◌, length-append}
 use mathlib.Core.List.{List, [], ◌++◌, append_assoc, append-nil}

@@ -1,22 +1,12 @@
 -- Laws of words and of what is put into the buffer.
-use Rattle.std.specs.Prelude.{ℕ, zero, suc, ◌+◌, ◌-◌, ◌/◌, ◌%◌, ◌^◌, ◌≤◌, ◌<◌, ◌≡◌, refl, List, [], ◌∷◌, ◌++◌, length, take, set}
-use Rattle.std.proofs.Common.{sym, ap, ◌∙◌, append_assoc, append-nil, arith, add-one, add-zero, pow-suc, length-append, length-set, take-suc-set, le-leb, lt-ltb}
+use Rattle.std.specs.Prelude.{ℕ, zero, suc, ◌+◌, ◌-◌, ◌/◌, ◌%◌, ◌^◌, ◌≤◌, ◌<◌, ◌≡◌, refl, List, [], ◌∷◌, ◌++◌, length, take}
+use Rattle.std.proofs.Common.{sym, ap, ◌∙◌, append_assoc, append-nil, arith, add-zero, pow-suc, length-append, le-leb, lt-ltb}
 use Rattle.std.proofs.Math.Nat.{pow-zero}
 use Rattle.std.proofs.lemmas.Bool.{lt-leb}
 use Rattle.io.specs.Digits.{last_digits, hex_digit_ascii, IsDigitCount}
 use Rattle.rules.specs.Bytes.{byte_at, fold}
 use Rattle.rules.specs.Printed.{decimal_within, decimal, word, upper}
 use Rattle.line_text.specs.Adds.{Adds}
-
--- A byte is put behind what was put before it.
-pub put_one : (out : List ℕ) (at b : ℕ) → at < length out → Adds out at (set out at b) (at + 1) (b ∷ [])
-put_one out at b h =
-    record {
-      same = length-set out at b;
-      ends = refl;
-      within = omega arith;
-      text_is = rw add-one (take-suc-set out at b h);
-    }
 
 -- One text behind another.
 pub puts_both : {before middle after : List ℕ} {at q r : ℕ} {x y : List ℕ} → Adds before at middle q x → Adds middle q after r y → Adds before at after r (x ++ y)
