@@ -69,7 +69,8 @@ module _ (s elements attributes : List ℕ) (total : ℕ) (numbers : List ℕ) (
         }
 
 -- The whole text of events: it is what the buffer is left with.
-pub puts_events : {before first second after left : List ℕ} {b c r : ℕ} (s elements attributes : List ℕ) (total : ℕ) (numbers : List ℕ) (n : ℕ) → Adds before 0 first b events_word
+pub puts_events : {before first second after left : List ℕ} {b c r : ℕ} (s elements attributes : List ℕ)
+    (total : ℕ) (numbers : List ℕ) (n : ℕ) → Adds before 0 first b events_word
     → Adds first b second c (word (decimal n) RS) → Adds second c after r (lines_from s elements attributes total numbers n 0)
     → left ≡ after → (r ≤ length left) × (take r left ≡ text_of s elements attributes total numbers n)
 unfolding text_of
@@ -78,7 +79,8 @@ puts_events s elements attributes total numbers n x y z e =
     rw e (omega (arith, all.within, all.same), all.text_is)
 
 -- The whole text of a refusal, likewise.
-pub puts_refusal : {before first second third after left : List ℕ} {a b c r : ℕ} (number position : ℕ) (place : List ℕ) → Adds before 0 first a refused_word
+pub puts_refusal : {before first second third after left : List ℕ} {a b c r : ℕ} (number position : ℕ)
+    (place : List ℕ) → Adds before 0 first a refused_word
     → Adds first a second b (word (decimal number) SPACE) → Adds second b third c place → Adds third c after r (word (decimal position) RS)
     → left ≡ after → (r ≤ length left) × (take r left ≡ refused_text number place position)
 unfolding refused_text

@@ -1,5 +1,6 @@
 -- The names of events by the numbers of events, elements and attributes.
-use Rattle.std.specs.Prelude.{ℕ, zero, suc, ◌+◌, ◌-◌, ◌*◌, ◌≤◌, ◌<◌, ◌≡◌, true, false, ◌||◌, Option, Some, None, List, [], ◌∷◌, length, get_or, eqb, ltb}
+use Rattle.std.specs.Prelude.{ℕ, zero, suc, ◌+◌, ◌-◌, ◌*◌, ◌≤◌, ◌<◌, ◌≡◌, true, false, ◌||◌, Option, Some}
+use Rattle.std.specs.Prelude.{None, List, [], ◌∷◌, length, get_or, eqb, ltb}
 use Rattle.rules.specs.Events.{event_width}
 use Rattle.rules.specs.Listing.{attribute_width}
 use Rattle.rules.specs.Printed.{upper, program_name_length}

@@ -1,5 +1,6 @@
 -- Laws of the search for a byte that is not allowed, and of both inputs.
-use Rattle.std.specs.Prelude.{ℕ, zero, suc, ◌+◌, ◌≤◌, ◌<◌, ◌≡◌, Bool, true, false, List, max, length, drop, eqb}
+use Rattle.std.specs.Prelude.{ℕ, zero, suc, ◌+◌, ◌≤◌, ◌<◌, ◌≡◌, Bool, true, false, List, max, length, drop}
+use Rattle.std.specs.Prelude.{eqb}
 use Rattle.std.proofs.Math.Path.{refl}
 use Rattle.std.proofs.Common.{sym, ap, ◌∙◌, arith, eq-eqb, ne_eqb, eqb-true}
 use Rattle.std.proofs.lemmas.Bool.{eqb-false}
@@ -17,7 +18,8 @@ pub record Looked (d : List ℕ) (bad i : ℕ) : Type 0 where
   pub some : 1 ≤ bad → span allowed d < length d
 
 -- One byte more, of which x says whether it fails: what is kept is the larger of the two.
-pub looked_turn : (d : List ℕ) (bad i x : ℕ) → Looked d bad i → i < length d → x ≡ failing (allowed (byte_at d i)) → Looked d (max bad x) (i + 1)
+pub looked_turn : (d : List ℕ) (bad i x : ℕ) → Looked d bad i → i < length d
+    → x ≡ failing (allowed (byte_at d i)) → Looked d (max bad x) (i + 1)
 unfolding allowed
 looked_turn d bad i x l h e = by_byte (allowed (byte_at d i)) refl
   where

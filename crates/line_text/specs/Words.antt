@@ -1,6 +1,8 @@
 -- Laws of words and of what is put into the buffer.
-use Rattle.std.specs.Prelude.{ℕ, zero, suc, ◌+◌, ◌-◌, ◌/◌, ◌%◌, ◌^◌, ◌≤◌, ◌<◌, ◌≡◌, refl, List, [], ◌∷◌, ◌++◌, length, take}
-use Rattle.std.proofs.Common.{sym, ap, ◌∙◌, append_assoc, append-nil, arith, add-zero, pow-suc, length-append, le-leb, lt-ltb}
+use Rattle.std.specs.Prelude.{ℕ, zero, suc, ◌+◌, ◌-◌, ◌/◌, ◌%◌, ◌^◌, ◌≤◌, ◌<◌, ◌≡◌, refl, List, [], ◌∷◌, ◌++◌}
+use Rattle.std.specs.Prelude.{length, take}
+use Rattle.std.proofs.Common.{sym, ap, ◌∙◌, append_assoc, append-nil, arith, add-zero, pow-suc, length-append}
+use Rattle.std.proofs.Common.{le-leb, lt-ltb}
 use Rattle.std.proofs.Math.Nat.{pow-zero}
 use Rattle.std.proofs.lemmas.Bool.{lt-leb}
 use Rattle.io.specs.Digits.{last_digits, hex_digit_ascii, IsDigitCount}
@@ -34,16 +36,20 @@ upper_last s at (suc n) =
     rw e (ap (λ (l : List ℕ). fold (byte_at s at) ∷ l) (upper_last s (at + 1) n))
 
 adds_none : {out : List ℕ} {at : ℕ} → at ≤ length out → Adds out at out at []
-adds_none {out} {at} h = record { same = refl; ends = omega arith; within = h; text_is = sym (append-nil (take at out)) }
+adds_none {out} {at} h =
+    record { same = refl; ends = omega arith; within = h; text_is = sym (append-nil (take at out)) }
 
 -- The loop that puts a name in upper case: nothing is put yet, and a turn of it.
-pub upper_none : {out : List ℕ} {at i : ℕ} (s : List ℕ) (from : ℕ) → at ≤ length out → i ≡ from → Adds out at out at (upper s from (i - from))
+pub upper_none : {out : List ℕ} {at i : ℕ} (s : List ℕ) (from : ℕ) → at ≤ length out → i ≡ from
+    → Adds out at out at (upper s from (i - from))
 unfolding upper
 upper_none {i = i} s from h e =
     let none : i - from ≡ 0 = omega arith in
     rw (none, upper) (adds_none h)
 
-pub upper_turn : {before middle after : List ℕ} {at q r i b : ℕ} (s : List ℕ) (from : ℕ) → from ≤ i → b ≡ fold (byte_at s i) → Adds before at middle q (upper s from (i - from)) → Adds middle q after r (b ∷ [])
+pub upper_turn : {before middle after : List ℕ} {at q r i b : ℕ} (s : List ℕ) (from : ℕ) → from ≤ i
+    → b ≡ fold (byte_at s i) → Adds before at middle q (upper s from (i - from))
+    → Adds middle q after r (b ∷ [])
     → Adds before at after r (upper s from (i + 1 - from))
 upper_turn {i} s from h e x y =
     let more : i + 1 - from ≡ suc (i - from) = omega arith in

@@ -1,5 +1,6 @@
 -- Laws of a buffer: what one write after another leaves.
-use Rattle.std.specs.Prelude.{ℕ, ◌+◌, ◌-◌, ◌*◌, ◌≤◌, ◌<◌, ◌≡◌, refl, Bool, true, false, List, [], ◌∷◌, ◌++◌, drop, leb}
+use Rattle.std.specs.Prelude.{ℕ, ◌+◌, ◌-◌, ◌*◌, ◌≤◌, ◌<◌, ◌≡◌, refl, Bool, true, false, List, [], ◌∷◌, ◌++◌}
+use Rattle.std.specs.Prelude.{drop, leb}
 use Rattle.std.proofs.Common.{sym, ◌∙◌, append_assoc, arith, add-one, length-append, length-drop, take-append-drop, length-take-le, take_at, drop-drop, le-leb, leb-true, leb-false}
 use Rattle.std.proofs.Math.Path.{ap}
 use Rattle.std.proofs.Math.ListN.{length, take, get_or}
@@ -132,7 +133,8 @@ written_more before l xs ys w h =
     ∙ splice_first before (xs ++ ys)
 
 -- A number's four bytes in place of four, low byte first.
-pub number_stored : (l : List ℕ) (i x : ℕ) → i + 4 ≤ length l → take i l ++ (to_le_bytes w32 x ++ drop (i + 4 - i) (drop i l)) ≡ written l i (bytes_of (x ∷ []))
+pub number_stored : (l : List ℕ) (i x : ℕ) → i + 4 ≤ length l
+    → take i l ++ (to_le_bytes w32 x ++ drop (i + 4 - i) (drop i l)) ≡ written l i (bytes_of (x ∷ []))
 unfolding bytes_of
 number_stored l i x h =
     let four : i + 4 - i ≡ 4 = omega arith in

@@ -11,7 +11,8 @@ returns-then-k-lt8 c = (omega arith, omega arith, c.plain_eight-k.ensures.1 ∙ 
 
 pub loop-j-preserved : goal.loop-j-preserved
 loop-j-preserved c =
-    plain_turn c.args.s.now _ _ _ refl c.loop-j-test.true (sym c.is_special.ensures ∙ c.if-is_special.false) c.loop-j.invariant
+    plain_turn c.args.s.now _ _ _ refl c.loop-j-test.true (sym c.is_special.ensures ∙ c.if-is_special.false)
+    c.loop-j.invariant
 
 pub returns : goal.returns
 returns c =

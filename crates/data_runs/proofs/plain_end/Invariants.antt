@@ -1,4 +1,5 @@
--- `plain_end` meets its contract. The invariant of both loops: the run ends at the same place from there as from the start.
+-- `plain_end` meets its contract. The invariant of both loops: the run ends at the same place from there as
+-- from the start.
 use Rattle.std.proofs.Common.{◌≡◌, ◌-◌, ◌≤◌, length}
 use Rattle.rules_laws.specs.Runs.{run_end}
 use Rattle.data_runs.proofs.plain_end.Given as goal

@@ -23,7 +23,9 @@ module _ (s : List ℕ) (i : ℕ) (room : i + 4 ≤ length s) (p : special (byte
       four t = plain_turn s (i + 3) (i + 4) _ (omega arith) (omega arith) t three
 
 pub returns-then-is_special : goal.returns-then-is_special
-returns-then-is_special c = let e : c.args.i + 0 ≡ c.args.i = omega arith in (omega arith, ap (run_end c.args.s.now) e)
+returns-then-is_special c =
+    let e : c.args.i + 0 ≡ c.args.i = omega arith in
+    (omega arith, ap (run_end c.args.s.now) e)
 
 pub returns-then-is_special-2 : goal.returns-then-is_special-2
 returns-then-is_special-2 c =
@@ -31,18 +33,24 @@ returns-then-is_special-2 c =
 
 pub returns-then-is_special-3 : goal.returns-then-is_special-3
 returns-then-is_special-3 c =
-    let p = sym c.is_special.ensures ∙ c.if-is_special.false in
-    (omega arith, two c.args.s.now c.args.i c.requires.1 p (sym c.is_special-2.ensures ∙ c.if-is_special-2.false))
+    let p = sym c.is_special.ensures ∙ c.if-is_special.false in (
+      omega arith,
+      two c.args.s.now c.args.i c.requires.1 p (sym c.is_special-2.ensures ∙ c.if-is_special-2.false),
+    )
 
 pub returns-then-is_special-4 : goal.returns-then-is_special-4
 returns-then-is_special-4 c =
     let p = sym c.is_special.ensures ∙ c.if-is_special.false in
-    let q = sym c.is_special-2.ensures ∙ c.if-is_special-2.false in
-    (omega arith, three c.args.s.now c.args.i c.requires.1 p q (sym c.is_special-3.ensures ∙ c.if-is_special-3.false))
+    let q = sym c.is_special-2.ensures ∙ c.if-is_special-2.false in (
+      omega arith,
+      three c.args.s.now c.args.i c.requires.1 p q (sym c.is_special-3.ensures ∙ c.if-is_special-3.false),
+    )
 
 pub returns : goal.returns
 returns c =
     let p = sym c.is_special.ensures ∙ c.if-is_special.false in
     let q = sym c.is_special-2.ensures ∙ c.if-is_special-2.false in
-    let r = sym c.is_special-3.ensures ∙ c.if-is_special-3.false in
-    (omega arith, four c.args.s.now c.args.i c.requires.1 p q r (sym c.is_special-4.ensures ∙ c.if-is_special-4.false))
+    let r = sym c.is_special-3.ensures ∙ c.if-is_special-3.false in (
+      omega arith,
+      four c.args.s.now c.args.i c.requires.1 p q r (sym c.is_special-4.ensures ∙ c.if-is_special-4.false),
+    )

@@ -1,4 +1,5 @@
--- `put_lines` puts the lines of all events. The invariant says what is left of them, and that each line took at most 72 bytes.
+-- `put_lines` puts the lines of all events. The invariant says what is left of them, and that each line took
+-- at most 72 bytes.
 use Rattle.std.proofs.Common.{◌≡◌, ◌+◌, ◌*◌, ◌≤◌}
 use Rattle.layout.specs.Sizes.{LINE}
 use Rattle.event_lines.specs.LineByLine.{Lines, lines_left, all_lines}

@@ -6,4 +6,5 @@ use Rattle.event_lines.proofs.put_refusal.Goals as goal
 pub returns : goal.returns
 returns c =
     let number = rw c.from.ensures at c.put_number.ensures.adds in
-    puts_refusal _ _ _ c.put_bytes.ensures.adds number c.put_bytes-2.ensures.adds c.put_number-2.ensures.adds (search rules)
+    puts_refusal _ _ _ c.put_bytes.ensures.adds number c.put_bytes-2.ensures.adds c.put_number-2.ensures.adds
+    (search rules)

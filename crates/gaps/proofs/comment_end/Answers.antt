@@ -14,11 +14,13 @@ returns-in_err-i c =
     ∙ sym (comment_cut c.args.s.now c.args.at c.requires _ _ (sym c.in_err-i.ensures))
 
 pub overflow_add-result : goal.overflow_add-result
-overflow_add-result c = omega (arith, comment_inside c.args.s.now c.args.at c.requires _ (sym c.in_ok-i.ensures))
+overflow_add-result c =
+    omega (arith, comment_inside c.args.s.now c.args.at c.requires _ (sym c.in_ok-i.ensures))
 
 pub returns-then-byte-eq62 : goal.returns-then-byte-eq62
 returns-then-byte-eq62 c =
-    sym (comment_closed c.args.s.now c.args.at c.requires _ (sym c.in_ok-i.ensures) (sym c.byte.ensures ∙ c.if-byte-eq62.true))
+    sym (comment_closed c.args.s.now c.args.at c.requires _ (sym c.in_ok-i.ensures)
+    (sym c.byte.ensures ∙ c.if-byte-eq62.true))
 
 pub behind_dash-requires : goal.behind_dash-requires
 behind_dash-requires c = comment_inside c.args.s.now c.args.at c.requires _ (sym c.in_ok-i.ensures)
@@ -27,4 +29,5 @@ pub returns : goal.returns
 returns c =
     ap refusal_of c.at.ensures
     ∙ ap (refused 4) c.behind_dash.ensures
-    ∙ sym (comment_unfit c.args.s.now c.args.at c.requires _ (sym c.in_ok-i.ensures) (λ e. c.if-byte-eq62.false (c.byte.ensures ∙ e)))
+    ∙ sym (comment_unfit c.args.s.now c.args.at c.requires _ (sym c.in_ok-i.ensures)
+    (λ e. c.if-byte-eq62.false (c.byte.ensures ∙ e)))

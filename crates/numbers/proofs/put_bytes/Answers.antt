@@ -9,4 +9,5 @@ loop-k-init c = sym (splice_none c.args.buffer.now 0)
 
 pub loop-k-preserved : goal.loop-k-preserved
 loop-k-preserved c = let a = c.args in
-    bytes_turn a.table.now a.buffer.now c.loop-k.buffer 0 c.loop-k.k _ (omega arith) c.loop-k.invariant (omega arith) (omega arith) c.put_number.ensures
+    bytes_turn a.table.now a.buffer.now c.loop-k.buffer 0 c.loop-k.k _ (omega arith) c.loop-k.invariant
+    (omega arith) (omega arith) c.put_number.ensures

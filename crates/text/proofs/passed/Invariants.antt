@@ -1,4 +1,5 @@
--- `passed` meets its contract. The invariant: the bytes that pass the test end at the same place from `i` as from the start.
+-- `passed` meets its contract. The invariant: the bytes that pass the test end at the same place from `i` as
+-- from the start.
 use Rattle.std.proofs.Common.{◌≡◌, ℕ, Bool, ◌+◌, drop}
 use Rattle.rules.specs.Bytes.{span}
 use Rattle.text.proofs.passed.Given as goal

@@ -5,13 +5,15 @@ use Rattle.text.specs.Words.{same_text_turn, same_text_other, same_text_all}
 use Rattle.words.proofs.same_text.Goals as goal
 
 -- What the test of two bytes that were read says.
-same_at : {x y b c : ℕ} {r v : Bool} → b ≡ x → c ≡ y → r ≡ eqb (fold b) (fold c) → r ≡ v → eqb (fold x) (fold y) ≡ v
+same_at : {x y b c : ℕ} {r v : Bool} → b ≡ x → c ≡ y → r ≡ eqb (fold b) (fold c) → r ≡ v
+    → eqb (fold x) (fold y) ≡ v
 same_at p q e f = cc
 
 pub returns-then-not-is_same : goal.returns-then-not-is_same
 returns-then-not-is_same c = let a = c.args in
     let differ = same_at c.byte.ensures c.byte-in-loop-k.ensures c.is_same.ensures c.if-not-is_same.true in
-    sym (same_text_other a.s.now a.a a.t.now a.b _ _ c.loop-k-test.true (eqb-false _ _ differ)) ∙ c.loop-k.invariant
+    sym (same_text_other a.s.now a.a a.t.now a.b _ _ c.loop-k-test.true (eqb-false _ _ differ))
+    ∙ c.loop-k.invariant
 
 pub loop-k-preserved : goal.loop-k-preserved
 loop-k-preserved c = let a = c.args in

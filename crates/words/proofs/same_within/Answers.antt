@@ -6,7 +6,8 @@ use Rattle.words.proofs.same_within.Goals as goal
 pub returns-then-not-is_same : goal.returns-then-not-is_same
 returns-then-not-is_same c = let a = c.args in
     let differ = sym c.is_same.ensures ∙ c.if-not-is_same.true in
-    sym (same_text_other a.s.now a.a a.t.now a.b _ _ c.loop-k-test.true (eqb-false _ _ differ)) ∙ c.loop-k.invariant
+    sym (same_text_other a.s.now a.a a.t.now a.b _ _ c.loop-k-test.true (eqb-false _ _ differ))
+    ∙ c.loop-k.invariant
 
 pub loop-k-preserved : goal.loop-k-preserved
 loop-k-preserved c = let a = c.args in

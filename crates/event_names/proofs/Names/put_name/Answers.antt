@@ -10,7 +10,8 @@ returns-then-x-eq0-clause-adds c =
 
 pub returns-then-x-gt-ELEMENTS-clause-adds : goal.returns-then-x-gt-ELEMENTS-clause-adds
 returns-then-x-gt-ELEMENTS-clause-adds c =
-    puts_no_name (name_none _ _ c.args.self.elements_fit c.args.x (omega arith)) c.put_byte-then-x-gt-ELEMENTS.ensures.adds
+    puts_no_name (name_none _ _ c.args.self.elements_fit c.args.x (omega arith))
+    c.put_byte-then-x-gt-ELEMENTS.ensures.adds
 
 pub put_byte-requires-2 : goal.put_byte-requires-2
 put_byte-requires-2 c =
@@ -27,7 +28,8 @@ returns-clause-adds c =
     let number = c.widened-number in
     let fits = c.args.self.elements_fit in
     let from = c.widened-from.ensures.0 in
-    puts_name (name_by _ _ fits _ number.result _ _ number.ensures.0 (omega arith) from c.widened-size.ensures.0) c.put_upper.ensures.adds c.put_byte-2.ensures.adds
+    puts_name (name_by _ _ fits _ number.result _ _ number.ensures.0 (omega arith) from
+    c.widened-size.ensures.0) c.put_upper.ensures.adds c.put_byte-2.ensures.adds
 
 pub returns-clause-short : goal.returns-clause-short
 returns-clause-short c =
