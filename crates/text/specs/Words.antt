@@ -1,5 +1,5 @@
 -- Laws of the rules' words: bytes, names, separators, comments and gaps.
-use Rattle.std.specs.Prelude.{ℕ, Result, Ok, Err, IsErrAnd, zero, suc, ◌+◌, ◌-◌, ◌≤◌, ◌<◌, ◌≡◌, refl, Bool, true, false, not, cond, List, [], ◌∷◌, length, drop, eqb, ltb}
+use Rattle.std.specs.Prelude.{ℕ, Result, Ok, Err, IsErrAnd, zero, suc, ◌+◌, ◌-◌, ◌≤◌, ◌<◌, ◌≡◌, refl, Bool, true, false, not, ◌||◌, cond, List, [], ◌∷◌, length, drop, eqb, ltb}
 use Rattle.std.proofs.Math.Path.{sym}
 use Rattle.std.proofs.Common.{ap, ◌∙◌, true≢false, arith, add-one, add-zero, zero-add, suc-add, add_assoc, not-suc-le-zero, le_of_suc-le-suc, length-drop, drop_of_length-le, eq-eqb, eqb-true, lt-ltb, le-ltb, ltb-true, ltb-false, ne_eqb}
 use Rattle.std.proofs.Math.Nat.{sub-zero}
@@ -29,6 +29,10 @@ test_in t z (x ∷ xs) (suc i) e = omega (arith, test_in t z xs i e)
 pub letter_in : (s : List ℕ) (i : ℕ) → letter (byte_at s i) ≡ true → i < length s
 unfolding letter
 letter_in = test_in letter refl
+
+-- What the code's `||` leaves in its flag where its first test fails.
+pub or_passed : (f g r : Bool) → f ≡ false → r ≡ g → r ≡ (f || g)
+or_passed f g r e q = rw (e, q)
 
 -- What the code's test of a byte that it read says.
 pub tested : (t : ℕ → Bool) {x b : ℕ} {r v : Bool} → b ≡ x → r ≡ t b → r ≡ v → t x ≡ v
