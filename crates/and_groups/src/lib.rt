@@ -101,6 +101,7 @@ fn required_in(m: Members, inner: usize, x: usize, b: Bits) -> Place
 // Where a group lacks a member that must come before anything behind the group, the place that is required
 // there, or 0; none where no group does. What follows is written for both cases: so large it stays out of the
 // loop over tokens, where it would cost documents of types without "&" a tenth of their time.
+// Kept: `Place(0)` in what is answered (fixed: it goes on as the required place, a byte of the open element).
 pub fn take(
     members: &[u8],
     begun: &mut [u32; BEGUN],

@@ -48,6 +48,7 @@ fn is_left(m: Members, last: Member, next: Member, b: Bits) -> bool
 }
 
 // Whether p may come next, of which i is the innermost member that holds it, or 0, and h that of u.
+// Kept: 0 for none, and no Option (fixed: `Comes` and the table's numbers have 0 for none).
 fn may_come(m: Members, h: usize, i: usize, b: Bits) -> bool
     requires { (1 ≤ h) × (h ≤ GRPGTCNT) × (i ≤ GRPGTCNT) }
     ensures { Comes m.entry.table.now m.entry.e.0 h i b result }

@@ -54,6 +54,7 @@ pub fn events_of(
     let mut line = Line { since: 0, mark: 0 };
     // Where the last start tag or run of data began.
     let mut from = 0;
+    // Kept: a turn goes on behind a whole piece, so the turns are no count (plainer).
     while at < d.len() {
         let e = o.element;
         let u = o.place;

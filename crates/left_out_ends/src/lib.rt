@@ -48,6 +48,7 @@ pub fn end_until(
 {
     let mut o = state;
     let mut k = n;
+    // Kept: the state counts down by `infer_end`, so that no index is counted here (plainer).
     while 0 < o.count {
         let e = o.element;
         if e.0 == x.0 {

@@ -11,6 +11,8 @@ ghost use Rattle.member_numbers.specs.Words.{Word};
 use layout::{ElementNo, GROUP, MEMBER, MEMBER_BITS, NEEDED, POSITIONS, Place, REACHES, SETS};
 use member_bits::Bits;
 
+// Kept: its methods answer 0 for none (fixed: they give the table's own bytes, which have 0 there).
+//
 // The table of members, which is whole, and the element of which it is asked.
 #[derive(Clone, Copy)]
 pub struct Members<'a> {

@@ -15,6 +15,7 @@ use member_entries::{Draft, Member};
 const AND_CODE: usize = model_code::AND_CODE as usize;
 
 // A group on the stack: its places are those from `lo` to `last`; whether it can be nothing, and the place that it requires at its start, or 0.
+// Kept: `required` has 0 for none (fixed: it is put into the table as it stands).
 #[derive(Clone, Copy)]
 pub struct Piece {
     pub lo: u8,

@@ -15,6 +15,7 @@ ghost use Rattle.model_table.specs.Shows.{Fresh};
 use layout::{MODEL, MODEL_ROW, POSITIONS};
 
 // What is kept of a group beside the table: whether it can be empty, and which place it requires, or 0.
+// Kept: `required` has 0 for none (fixed: it is a byte of the table, and `join_seq` and the others hand it on).
 #[derive(Clone, Copy)]
 pub struct Part {
     pub nullable: bool,

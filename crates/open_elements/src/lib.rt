@@ -15,6 +15,7 @@ use type_tables::TypeTables;
 // An open element, the place that was taken last in it, or 0, and its marks: whether its content is complete
 // there, and the place that is required, or 0. Each number is kept in a byte: `of` alone puts them there, and
 // the methods alone read them.
+// Kept: bytes with 0 for none (fixed: 24 entries by value, in fixed memory).
 #[derive(Clone, Copy)]
 pub struct Entry {
     pub element: u8,
@@ -47,6 +48,7 @@ pub struct Outcome {
 }
 
 // The marks of an open element: whether its content is complete, and the place that is required, or 0.
+// Kept: 0 for none (fixed: it becomes the byte of an entry).
 #[derive(Drop)]
 struct Marks {
     complete: bool,

@@ -61,6 +61,7 @@ fn attributes_at(
 {
     let mut n = 0;
     let mut j = first;
+    // Kept: a turn goes on behind a whole attribute, so the turns are no count (plainer).
     while text::is_letter(text::byte(s, j)) {
         let w = tag_attributes::specification_at(long, classes, s, j)?;
         n = tag_attributes::keep(given, n, w);
