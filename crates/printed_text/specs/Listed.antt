@@ -14,6 +14,9 @@ use Rattle.layout.specs.Sizes.{ATTRIBUTE_RECORDS, RECORDS}
 use Rattle.rules_laws.specs.Within.{type_file_count}
 use Rattle.type_laws.specs.Attributes.{type_file_attributes, attributes_count}
 use Rattle.answer_laws.specs.Judge.{settled_one, refuses_some}
+use Rattle.type_judge.specs.declared.TypeFault.{TypeFault}
+use Rattle.type_judge.specs.declared.TypeFault.TheVariants.{Malformed, Ambiguous}
+use Rattle.type_judge.specs.Decides.{refusal_by}
 use Rattle.printed_text.specs.Accepted.{ListedIn}
 use Rattle.printed_text.specs.Attributes.{attributes_fit, attributes_named}
 
@@ -66,3 +69,8 @@ module _ (s before : List ℕ) (lent : length before ≡ ATTRIBUTE_RECORDS) (es 
   -- It is not refused.
   pub listed_not : {b : Answer} → a ≡ b → 1 ≤ b.input → ⊥
   listed_not e h = omega (arith, ap (λ (x : Answer). x.input) (sym e ∙ (listed_one program_settings s es accepted before a after lent l).0))
+
+-- A refusal names its input.
+pub refusal_names : (x : TypeFault) → 1 ≤ (refusal_by x).input
+refusal_names (Malformed f) = omega arith
+refusal_names (Ambiguous c) = omega arith

@@ -44,7 +44,8 @@ fn put_events(out: &mut [u8], s: &[u8], numbers: &[u32; PROGRAM_ROOM], n: usize)
     ensures { IsPrefixLen result out.new × EventsPut s.now numbers.now n (take result out.new) }
 {
     let mut elements = [0u32; RECORDS];
-    type_judge::judge(given(), s, &mut elements);
+    // It is accepted: what is asked for are the records.
+    let _ = type_judge::judge(given(), s, &mut elements);
     let mut attributes = [0u32; ATTRIBUTE_RECORDS];
     let total = listed(s, &mut attributes);
     let names = Names {
