@@ -9,6 +9,10 @@ use Rattle.rules.specs.TypeFile.{Element}
 use Rattle.rules.specs.Judge.{Answer, acceptance}
 use Rattle.rules.specs.Events.{Event, event_width}
 use Rattle.rules.specs.Reader.{event_numbers, Reads, RefusesBoth, not_offered, type_too_long, document_too_long, type_not_allowed, document_not_allowed, malformed, repeated, ambiguous, unsettled, no_room, ReadAs, refuses, accepts}
+use Rattle.type_stage.specs.declared.Refused.{Refused}
+use Rattle.type_stage.specs.declared.Refused.TheVariants.{InType, InDocument}
+use Rattle.one_document.specs.Answer.{refusal_of}
+use Rattle.printed_text.specs.Listed.{refusal_names}
 use Rattle.rules.specs.Printed.{program_settings, program_room, input_text, refused_text, Prints, refusal}
 
 -- What was read under the settings that the program gives.
@@ -66,6 +70,14 @@ module _ (c : Settings) (s d before : List ℕ) (a : Answer) (after : List ℕ) 
       by_answer (accepts es ev r f q w) = absurd (omega (arith, ap (λ (y : Answer). y.input) q))
 
 -- A refusal that is known prints its number, input and position.
+-- The text of a refusal.
+abbrev pub refusal_text : Answer → List ℕ
+refusal_text a = refused_text a.number (input_text a.input) a.position
+
+pub refused_names : (x : Refused) → 1 ≤ (refusal_of x).input
+refused_names (InType t) = refusal_names t
+refused_names (InDocument f) = omega arith
+
 pub prints_refusal : (s d before after text : List ℕ) {a b : Answer} → before ≡ replicate program_room 0 → ReadAs numbers program_settings s d before a after → a ≡ b → 1 ≤ b.input
     → text ≡ refused_text b.number (input_text b.input) b.position → Prints s d text
 prints_refusal s d before after text {a} {b} lent answered e h q =

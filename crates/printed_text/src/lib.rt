@@ -6,7 +6,10 @@ ghost use Rattle.io.specs.Counts.{IsPrefixLen};
 ghost use Rattle.rules.specs.Printed.{program_settings, Prints};
 ghost use Rattle.layout.specs.Sizes.{ATTRIBUTE_RECORDS, PROGRAM_EVENTS, PROGRAM_TEXT};
 ghost use Rattle.inputs.specs.Checks.{settings_of};
+ghost use Rattle.type_judge.specs.Decides.{refusal_by};
+ghost use Rattle.one_document.specs.Answer.{refusal_of};
 ghost use Rattle.printed_text.specs.Accepted.{Accepted, ListedIn, EventsPut};
+ghost use Rattle.printed_text.specs.Answers.{refusal_text};
 
 use event_names::{Events, Names};
 use inputs::Settings;
@@ -58,6 +61,31 @@ fn put_events(out: &mut [u8], s: &[u8], numbers: &[u32; PROGRAM_ROOM], n: usize)
     event_lines::put_events(out, names, events)
 }
 
+// The text of the refusal of a type.
+fn put_type_fault(out: &mut [u8], t: TypeFault) -> usize
+    requires { PROGRAM_TEXT ≤ length out.old }
+    ensures { (result ≤ length out.new) × (take result out.new ≡ refusal_text (refusal_by t)) }
+{
+    match t {
+        TypeFault::Malformed(f) => event_lines::put_refusal(out, f.number, b"in type at ", f.at),
+        TypeFault::Ambiguous(c) => {
+            let number = Refusal::Ambiguous as u32;
+            event_lines::put_refusal(out, number, b"in type at ", c.at as usize)
+        }
+    }
+}
+
+// The text of a refusal.
+fn put_refused(out: &mut [u8], x: Refused) -> usize
+    requires { PROGRAM_TEXT ≤ length out.old }
+    ensures { (result ≤ length out.new) × (take result out.new ≡ refusal_text (refusal_of x)) }
+{
+    match x {
+        Refused::InType(t) => put_type_fault(out, t),
+        Refused::InDocument(f) => event_lines::put_refusal(out, f.number, b"in document at ", f.at),
+    }
+}
+
 // The text that is printed for a type file and a document, at the start of out.
 pub fn printed(s: &[u8], d: &[u8], out: &mut [u8]) -> usize
     requires { PROGRAM_TEXT ≤ length out.old }
@@ -66,15 +94,6 @@ pub fn printed(s: &[u8], d: &[u8], out: &mut [u8]) -> usize
     let mut numbers = [0u32; PROGRAM_ROOM];
     match document_reader::read(given(), s, d, &mut numbers) {
         Ok(n) => put_events(out, s, &numbers, n),
-        Err(Refused::InType(TypeFault::Malformed(f))) => {
-            event_lines::put_refusal(out, f.number, b"in type at ", f.at)
-        }
-        Err(Refused::InType(TypeFault::Ambiguous(c))) => {
-            let number = Refusal::Ambiguous as u32;
-            event_lines::put_refusal(out, number, b"in type at ", c.at as usize)
-        }
-        Err(Refused::InDocument(f)) => {
-            event_lines::put_refusal(out, f.number, b"in document at ", f.at)
-        }
+        Err(x) => put_refused(out, x),
     }
 }

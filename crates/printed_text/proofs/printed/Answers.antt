@@ -3,7 +3,7 @@ use Rattle.std.proofs.Common.{refl, ap, arith}
 use Rattle.one_document.specs.Answer.{answer_of}
 use Rattle.rules.specs.Printed.{events}
 use Rattle.file_reader.specs.Loading.{counts_of}
-use Rattle.printed_text.specs.Answers.{read_given, accepted_read, prints_refusal}
+use Rattle.printed_text.specs.Answers.{read_given, accepted_read, prints_refusal, refused_names}
 use Rattle.printed_text.proofs.printed.Goals as goal
 
 pub put_events-requires : goal.put_events-requires
@@ -17,17 +17,7 @@ returns-in-Ok c =
     let said = c.put_events.ensures in
     (said.0, events read.elements read.evs read.reads read.fits (said.1 read.elements read.evs read.rest read.reads.accepted read.written read.count))
 
-pub returns-in-Err-InType-Malformed : goal.returns-in-Err-InType-Malformed
-returns-in-Err-InType-Malformed c =
-    let said = c.put_refusal.ensures in
-    (counts_of _ _ said.0, prints_refusal _ _ _ _ _ refl (read_given c.given.ensures c.read.ensures.read_as) (ap answer_of c.in-Err-InType-Malformed.is) (omega arith) said.1)
-
-pub returns-in-Err-InType-Ambiguous : goal.returns-in-Err-InType-Ambiguous
-returns-in-Err-InType-Ambiguous c =
-    let said = c.put_refusal-in-Err-InType-Ambiguous.ensures in
-    (counts_of _ _ said.0, prints_refusal _ _ _ _ _ refl (read_given c.given.ensures c.read.ensures.read_as) (ap answer_of c.in-Err-InType-Ambiguous.is) (omega arith) said.1)
-
-pub returns-in-Err-InDocument : goal.returns-in-Err-InDocument
-returns-in-Err-InDocument c =
-    let said = c.put_refusal-in-Err-InDocument.ensures in
-    (counts_of _ _ said.0, prints_refusal _ _ _ _ _ refl (read_given c.given.ensures c.read.ensures.read_as) (ap answer_of c.in-Err-InDocument.is) (omega arith) said.1)
+pub returns-in-Err : goal.returns-in-Err
+returns-in-Err c =
+    let said = c.put_refused.ensures in
+    (counts_of _ _ said.0, prints_refusal _ _ _ _ _ refl (read_given c.given.ensures c.read.ensures.read_as) (ap answer_of c.in-Err.is) (refused_names _) said.1)
