@@ -3,16 +3,15 @@ use Rattle.std.specs.Prelude.{ℕ, zero, suc, ◌+◌, ◌-◌, ◌≤◌, ◌<�
 use Rattle.std.proofs.Common.{sym, ◌∙◌, ap, subst, arith}
 use Rattle.rules.specs.Settings.{Settings}
 use Rattle.rules.specs.Bytes.{byte_at, MDC, TAGLVL, document_limit, element_limit}
-use Rattle.rules.specs.Reading.{Reading, refused, got}
+use Rattle.rules.specs.Reading.{refused, got}
 use Rattle.rules.specs.TypeFile.{Element}
 use Rattle.rules.specs.Lent.{bytes_of}
 use Rattle.rules.specs.Judge.{Accepts}
-use Rattle.rules.specs.Document.{Tag, start_tag, blank, piece}
+use Rattle.rules.specs.Document.{Tag, start_tag, piece}
 use Rattle.rules.specs.Document as text
-use Rattle.rules.specs.Decisions.{pcdata}
 use Rattle.rules.specs.Events.{Event}
 use Rattle.rules.specs.Given.{with_attributes}
-use Rattle.rules.specs.Settling.{State, fitting, end_element, end_document}
+use Rattle.rules.specs.Settling.{State, end_element, end_document}
 use Rattle.rules.specs.Settling as rules
 use Rattle.rules.specs.Records.{Line, is_fresh, mark_behind, records_settled}
 use Rattle.rules.specs.Reader.{piece_under, document, event_numbers}
@@ -23,7 +22,7 @@ use Rattle.text.specs.Refusal.{number_of, fault_at}
 use Rattle.layout.specs.declared.ElementNo.{ElementNo}
 use Rattle.layout.specs.Typed.{element_no}
 use Rattle.rules_laws.specs.Holds.{got_so}
-use Rattle.rules_laws.specs.Runs.{is_run, run_end}
+use Rattle.rules_laws.specs.Runs.{run_end}
 use Rattle.rules_laws.specs.BeforeStarts.{with_append}
 use Rattle.rules_laws.specs.Pieces.{piece_start_tag, piece_read}
 use Rattle.layout.specs.Sizes.{MOST_EVENTS}

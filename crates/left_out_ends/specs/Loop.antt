@@ -1,7 +1,7 @@
 -- The loop that infers ends: what the tables' answers say, each turn, and each way out.
 use Rattle.std.specs.Prelude.{ℕ, zero, suc, ◌+◌, ◌≤◌, ◌<◌, ◌≡◌, refl, Bool, true, false, List, [], ◌∷◌, ◌++◌, length, get_or, Ok, Err}
 use Rattle.std.proofs.Common.{ap, sym, ◌∙◌, subst, append_assoc, append-nil, arith, length-append}
-use Rattle.rules.specs.Reading.{Reading, refused, got, and_then}
+use Rattle.rules.specs.Reading.{Reading, got, and_then}
 use Rattle.rules.specs.TypeFile.{Element}
 use Rattle.rules.specs.Elements.{content_of, end_o}
 use Rattle.rules.specs.Decisions.{start}

@@ -11,7 +11,7 @@ use Rattle.rules.specs.TypeFile.{Element}
 use Rattle.rules.specs.Elements.{content_of, has_model, end_o}
 use Rattle.rules.specs.Decisions.{Token, start, pcdata, Decisions}
 use Rattle.rules.specs.Events.{Event, with_data}
-use Rattle.rules.specs.Settling.{State, take_place, fitting, is_complete, inferable, chain, take_token, end_document}
+use Rattle.rules.specs.Settling.{State, take_place, fitting, is_complete, inferable, chain, take_token}
 use Rattle.rules.specs.Settling as rules
 use Rattle.rules.specs.Acts.{Act, infers, data_byte_lem, infers_end, Acts, Few}
 use Rattle.rules.specs.Acts as act
@@ -38,7 +38,6 @@ use Rattle.inferring.specs.Inferring.{EndsTo, none, more, Stops, infer_one, Infe
 use Rattle.inferring.specs.declared.Stop.{Stop}
 use Rattle.inferring.specs.Starts.{chain_infers}
 use Rattle.left_out_ends.specs.Until.{infer_ends, UntilGot}
-use Rattle.left_out_ends.specs.Ends.{inferred_from}
 use Rattle.closing.specs.Closed.{FinishedGot}
 use Rattle.acts.specs.Settled.{all_ended, all_started, Comes, left_out}
 use Rattle.acts.specs.Readings.{noted_acts, end_document_acts}

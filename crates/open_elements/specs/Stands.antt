@@ -1,6 +1,5 @@
 -- What the open elements of the code stand for, in the rules' terms.
 use Rattle.std.specs.Prelude.{ℕ, zero, suc, ◌+◌, ◌-◌, ◌≤◌, ◌<◌, ◌≡◌, Bool, false, List, [], ◌∷◌, ◌++◌, length, get_or, set, replicate}
-use Rattle.rules.specs.Reading.{Reading, refused, got}
 use Rattle.rules.specs.TypeFile.{Element}
 use Rattle.rules.specs.Elements.{content_of}
 use Rattle.rules.specs.Settling.{State, take_place}

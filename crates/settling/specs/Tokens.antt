@@ -1,6 +1,6 @@
 -- The whole of a token: the ends, the starts and its place, put together as the rules have them.
 use Rattle.std.specs.Prelude.{ℕ, zero, suc, ◌+◌, ◌-◌, ◌≤◌, ◌<◌, ◌≡◌, refl, Bool, true, false, List, [], ◌∷◌, ◌++◌, length}
-use Rattle.std.proofs.Common.{sym, ◌∙◌, ap, ap₂, subst, append_assoc, arith, length-append}
+use Rattle.std.proofs.Common.{sym, ◌∙◌, ap, ap₂, append_assoc, arith, length-append}
 use Rattle.rules.specs.Reading.{Reading, refused, got, and_then}
 use Rattle.rules.specs.TypeFile.{Element}
 use Rattle.rules.specs.Decisions.{Token}
@@ -22,16 +22,16 @@ use Rattle.attribute_events.specs.PutBefore.{PutsWritten}
 use Rattle.type_tables.specs.Tables.{Tables, CanTake}
 use Rattle.open_elements.specs.declared.OpenElements.{OpenElements}
 use Rattle.open_elements.specs.declared.Outcome.{Outcome}
-use Rattle.open_elements.specs.Stands.{Ranged, Stands}
+use Rattle.open_elements.specs.Stands.{Stands}
 use Rattle.open_elements.specs.Becomes.{Got, StandsWith}
 use Rattle.open_elements.specs.Taken.{can_fit}
 use Rattle.open_elements.specs.Methods.{stands_deep}
-use Rattle.event_buffer.specs.EventByEvent.{puts_none, puts_then}
+use Rattle.event_buffer.specs.EventByEvent.{puts_then}
 use Rattle.ways.specs.declared.Way.{Way}
 use Rattle.ways.specs.declared.Way.TheVariants.{Taken, Inferred, Stuck}
 use Rattle.ways.specs.Asks.{token_of, token_of_number, token_of_declared, way_of, chained, starts_of, place_of}
 use Rattle.inferring.specs.declared.Stop.{Stop}
-use Rattle.inferring.specs.Inferring.{no_end, Comes, Stops, no_start, infer_many, Infers}
+use Rattle.inferring.specs.Inferring.{Comes, Stops, infer_many, Infers}
 use Rattle.inferring.specs.Starts.{infer_deeper, infer_fresh, Along, along_all}
 use Rattle.inferring.specs.Inward.{way_fits, way_infers, way_some}
 use Rattle.inferring.specs.Ends.{found_at, found_settled, found_refused}

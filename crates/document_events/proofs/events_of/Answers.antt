@@ -21,7 +21,7 @@ use Rattle.settling.specs.Tokens.{refuses_over, refuses_many, refuses_placed, se
 use Rattle.record_ends.specs.Held.{is_held, shown_end, Frees}
 use Rattle.record_ends.specs.Freeing.{frees_same, shown_range}
 use Rattle.pieces.specs.declared.Found.TheVariants as found
-use Rattle.document_events.specs.Turns.{going_start, Turn, piece_refuses, token_asked, token_range, token_refuses, going_token, end_asked, end_tag_refuses, going_end, going_passed, end_refuses, end_counts}
+use Rattle.document_events.specs.Turns.{going_start, Turn, piece_refuses, token_asked, token_range, token_refuses, going_token, end_tag_refuses, going_end, going_passed, end_refuses, end_counts}
 use Rattle.document_events.proofs.events_of.Goals as goal
 use Rattle.document_events.proofs.events_of.Goals.{After-found_at, After-ends-f, Joined-starts-eq0, Joined-t-ne0, then-starts-eq0, else-starts-eq0+else-o-starts-gt-TAGLVL, then-t-ne0, else-t-ne0, then-opens, else-opens}
 
