@@ -16,7 +16,8 @@ use Rattle.attribute_defaults.specs.DefaultOf.{default_is}
 use Rattle.list_table.specs.declared.Row.{Row}
 use Rattle.list_table.specs.Lists.{RowOf}
 use Rattle.attribute_records.specs.Recorded.{kind_of, detail_of, row_numbers}
-use Rattle.attribute_defaults.specs.Ways.{value_is}
+use Rattle.attribute_defaults.specs.declared.DefaultValue.TheVariants.{Literal}
+use Rattle.attribute_defaults.specs.Ways.{kind_is}
 
 -- A kind and what goes with it, by the test that the code makes.
 module _ (m x : ℕ) where
@@ -52,7 +53,7 @@ default_numbers_lem d n = go (dec_lt d 2)
     go (yes h) = low d h
     go (no h) =
         let k : 2 ≤ d = omega arith in
-        rw (value_is d n k, ← kind_last 2 d k, ← detail_last 2 d d k, ← detail_last 2 d n k)
+        rw (kind_is (Literal d n) k, ← kind_last 2 d k, ← detail_last 2 d d k, ← detail_last 2 d n k)
 
 pub value_length : (x : DeclaredValue) → length (value_numbers x) ≡ 2
 value_length cdata = refl
