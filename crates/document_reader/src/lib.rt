@@ -90,12 +90,7 @@ fn read_listed(a: Accepted, d: &[u8], lists: &[u16], bytes: &mut [u8]) -> Readin
 }
 
 // Reads the document under an accepted type, whose elements are recorded and whose lists stand at `heads`. A type without attributes pays for no table of them.
-fn read_under(
-    a: Accepted,
-    d: &[u8],
-    heads: &[u16; ELEMENTS],
-    bytes: &mut [u8],
-) -> Reading<usize>
+fn read_under(a: Accepted, d: &[u8], heads: &[u16; ELEMENTS], bytes: &mut [u8]) -> Reading<usize>
     requires { JudgedHeads (settings_of a.settings) a.file.now a.elements.now heads.now a.count × (length d.now ≤ document_limit) }
     ensures { Followed (settings_of a.entry.settings) a.entry.file.now d.now [] [] bytes.old bytes.new result }
 {
@@ -109,12 +104,7 @@ fn read_under(
 }
 
 // The same to numbers, as the small program lends them. It fills all tables.
-fn numbered(
-    a: Accepted,
-    d: &[u8],
-    heads: &[u16; ELEMENTS],
-    numbers: &mut [u32],
-) -> Reading<usize>
+fn numbered(a: Accepted, d: &[u8], heads: &[u16; ELEMENTS], numbers: &mut [u32]) -> Reading<usize>
     requires { JudgedHeads (settings_of a.settings) a.file.now a.elements.now heads.now a.count × (length d.now ≤ document_limit) }
     ensures { Followed (settings_of a.entry.settings) a.entry.file.now d.now numbers.old numbers.new [] [] result }
 {

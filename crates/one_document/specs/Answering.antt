@@ -61,14 +61,14 @@ module _ (c : Settings) (s d numbers numbers_after bytes bytes_after : List ℕ)
       → MatchResult r (λ n. v ≡ Ok n) (λ f. IsErrAnd v (λ x. x ≡ InDocument f)) → Answers c s d numbers numbers_after bytes bytes_after v
   followed_answers b (Ok n) v (es, a, (ev, i, k, x, y, f)) e =
       rw e (
-        record {
-          elements = es;
-          events = ev;
-          reads = record { legible = b; accepted = a; decisions = decided s es; means = accepted_decided s es a; reading = i };
-          counted = k;
-          written = in_both ev x y;
-          few = f;
-        }
+      record {
+        elements = es;
+        events = ev;
+        reads = record { legible = b; accepted = a; decisions = decided s es; means = accepted_decided s es a; reading = i };
+        counted = k;
+        written = in_both ev x y;
+        few = f;
+      }
       )
     where
       in_both : (ev : List Event) → Written numbers numbers_after (event_numbers ev) → Written bytes bytes_after (bytes_of (event_numbers ev))

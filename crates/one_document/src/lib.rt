@@ -37,10 +37,14 @@ pub fn under<'x>(
     lists: &'x [u16],
 ) -> Type<'x>
     ensures { result ≡ record {
-        long = c.name_length; edition = c.edition;
-        file = file.entry; elements = elements.entry; index = index.entry;
-        tables = record { rows = rows.entry; places = places.entry; facts = facts.entry; members = members.entry };
-        lists = lists.entry } }
+      long = c.name_length;
+      edition = c.edition;
+      file = file.entry;
+      elements = elements.entry;
+      index = index.entry;
+      tables = record { rows = rows.entry; places = places.entry; facts = facts.entry; members = members.entry };
+      lists = lists.entry;
+    } }
 {
     let tables = TypeTables {
         rows,

@@ -29,12 +29,12 @@ alone : (c : After-branch-g) (settings : Settings) (s elements heads : List ℕ)
 alone c settings s elements heads h =
     let a = c.args in
     elim c.else-not-is_unclean.branch [
-      else-not-is_unclean-via-then-not-is_unclean+else-not-all_allowed w ↦
-        let clean = sym c.is_unclean.ensures ∙ w.if-not-is_unclean.true in
-        legible_alone settings s elements heads a.d.now
-        (legible_both settings s a.d.now (staged_legible settings s elements heads a.g clean h) c.if-d-gt-DOCUMENT_LIMIT.false (sym w.all_allowed.ensures ∙ w.if-not-all_allowed.false)) a.g clean h
-    | else-not-is_unclean-via-else-not-is_unclean w ↦
-        unclean_alone settings s elements heads a.d.now a.g (sym c.is_unclean.ensures ∙ w.if-not-is_unclean.false) h c.if-d-gt-DOCUMENT_LIMIT.false
+      | else-not-is_unclean-via-then-not-is_unclean+else-not-all_allowed w ↦
+          let clean = sym c.is_unclean.ensures ∙ w.if-not-is_unclean.true in
+          legible_alone settings s elements heads a.d.now
+          (legible_both settings s a.d.now (staged_legible settings s elements heads a.g clean h) c.if-d-gt-DOCUMENT_LIMIT.false (sym w.all_allowed.ensures ∙ w.if-not-all_allowed.false)) a.g clean h
+      | else-not-is_unclean-via-else-not-is_unclean w ↦
+          unclean_alone settings s elements heads a.d.now a.g (sym c.is_unclean.ensures ∙ w.if-not-is_unclean.false) h c.if-d-gt-DOCUMENT_LIMIT.false
     ]
 
 pub returns-in_err-g : goal.returns-in_err-g
