@@ -40,5 +40,5 @@ echo "7. switches and tables of functions"
 n "tables of functions, switches on a step" $(c '\[fn\(|: fn\(')
 echo "8. proofs"
 n "answers" $(cat crates/*/proofs/*/Answers.antt crates/*/proofs/*/*/Answers.antt 2>/dev/null | grep -cE '^pub [a-z]')
-n "lines of answers and invariants" $(cat $(find crates -path '*proofs*' -name '*.antt') | wc -l)
-n "lines of definitions and laws" $(cat $(find crates -path '*specs*' -name '*.antt') | wc -l)
+n "lines of answers and invariants" $(cat $(find crates/*/proofs -name '*.antt') | wc -l)
+n "lines of definitions and laws" $(cat $(find crates/*/specs -name '*.antt') | wc -l)
