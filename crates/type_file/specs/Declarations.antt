@@ -1,6 +1,6 @@
 -- Laws of the rules' declarations: each way that reading of one goes.
 use Rattle.std.specs.Prelude.{ℕ, ◌+◌, ◌-◌, ◌≤◌, ◌<◌, ◌≡◌, refl, true, false, List, length, Result, Ok, Err}
-use Rattle.std.proofs.Common.{sym, ◌∙◌, true≢false, arith}
+use Rattle.std.proofs.Common.{sym, ap, ◌∙◌, true≢false, arith}
 use Rattle.std.proofs.Math.Decide.{ℕ_discrete}
 use borrow.Author.Tests.{ne_eqb, lt-ltb, le-ltb}
 use Rattle.rules.specs.Bytes.{byte_at, letter, name_end, DSO, EXCLAMATION, MDC, MINUS, OPT, PERO, STAGO}
@@ -12,7 +12,7 @@ use Rattle.text.specs.Words.{comment_range, is_word_other}
 use Rattle.text.specs.declared.Fault.{Fault}
 use Rattle.element_records.specs.declared.Progress.{Progress}
 use Rattle.element_records.specs.Progress.{KeepsProgress, MeetsStep}
-use Rattle.attribute_lists.specs.Listed.{Headed, MeetsLists}
+use Rattle.attribute_lists.specs.Listed.{Headed, ListsAs, MeetsLists}
 use Rattle.type_file.specs.File.{MeetsDeclarations}
 
 -- A step that was refused, that goes on with the same elements and lists, and that read an element further on.

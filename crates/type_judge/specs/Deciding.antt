@@ -16,7 +16,7 @@ use Rattle.type_judge.specs.declared.TypeFault.{TypeFault}
 use Rattle.element_records.specs.Progress.{Pending, KeepsProgress}
 use Rattle.attribute_lists.specs.Listed.{HeadedAs}
 use Rattle.type_file.specs.File.{MeetsFile}
-use Rattle.type_judge.specs.Decides.{answer_of, Decides}
+use Rattle.type_judge.specs.Decides.{answer_of, refusal_by, Decides}
 
 -- What a `?` gives, which makes this of an error.
 pub raised : {A E : Type 0} {x : E} (r : Result A E) → IsErrAnd r (λ e. e ≡ x) → r ≡ Err x

@@ -1,9 +1,11 @@
 -- `in_order` meets its contract: each way by what is known of the document there.
 use Prim.Native.Nat.{ℕ}
 use mathlib.Core.List.{List}
-use mathlib.Core.Path.{sym, ◌∙◌}
+use mathlib.Core.Path.{ap, sym, ◌∙◌}
 use Rattle.rules.specs.Settings.{Settings}
+use Rattle.rules.specs.Reader.{document_refusal}
 use Rattle.inputs.specs.Looking.{legible_both, document_unclean}
+use Rattle.text.specs.declared.Fault.{Fault}
 use Rattle.type_judge.specs.Deciding.{raised}
 use Rattle.type_stage.specs.Stages.{Staged, OrderedAs, alone_of}
 use Rattle.type_stage.specs.Order.{staged_legible, too_long, unclean_alone, legible_alone, ordered_read, ordered_refused}
