@@ -1,14 +1,14 @@
 -- Laws of the lent buffers: what one event after another leaves.
 use Rattle.std.specs.Prelude.{ℕ, ◌+◌, ◌*◌, ◌≤◌, ◌<◌, ◌≡◌, Bool, true, false, leb, List, [], ◌∷◌, ◌++◌, take, drop}
 use Rattle.std.proofs.Math.Path.{refl}
-use Rattle.std.proofs.Common.{sym, ◌∙◌, ap, append_assoc, append-nil, arith, length-append, length-drop, drop_at, take_all, drop_of_length-le, leb-true, leb-false}
+use Rattle.std.proofs.Common.{sym, ◌∙◌, ap, append_assoc, append-nil, arith, length-append, length-drop, drop_at, leb-true, leb-false}
 use Rattle.std.proofs.Math.ListN.{length}
 use Rattle.std.proofs.Math.Seq.{take-append_seam}
-use Rattle.rules.specs.Lent.{bytes_of, filled_with}
+use Rattle.rules.specs.Lent.{bytes_of}
 use Rattle.rules.specs.Events.{Event, event_width}
 use Rattle.rules.specs.Reader.{event_numbers}
 use Rattle.numbers.specs.Written.{written, Written}
-use Rattle.numbers.specs.Stores.{bytes_of_append, bytes_of_length, event_numbers_length, written_fits, written_not, written_keeps, written_more}
+use Rattle.numbers.specs.Stores.{bytes_of_append, bytes_of_length, event_numbers_length, splice_turn, written_fits, written_not, written_keeps, written_more}
 use Rattle.event_buffer.specs.Buffers.{noted, Puts, PutsOver}
 
 -- Events as numbers.
@@ -42,14 +42,28 @@ written_so l k xs {after = after} e q fits full = by_room (leb (k + length xs) (
         let h = leb-false (k + length xs) (length l) t in
         full (omega arith) ∙ sym (written_not l k xs h)
 
--- The bytes of an event, put over as many others.
-pub bytes_filled : (xs zs : List ℕ) {ys : List ℕ} → length xs ≡ event_width → length zs ≡ 4 * event_width
-    → ys ≡ filled_with (bytes_of (take event_width xs)) zs → ys ≡ bytes_of xs
-bytes_filled xs zs e n p =
-    let all = take_all event_width xs (omega arith) in
-    let size = bytes_of_length xs in
-    let none : drop (length (bytes_of xs)) zs ≡ [] = drop_of_length-le zs {i = length (bytes_of xs)} (omega arith) in
-    p ∙ rw (all, none) (append-nil (bytes_of xs))
+-- What is written right behind what was written makes one with it.
+pub written_behind : (l now xs ys : List ℕ) (b at : ℕ) {after : List ℕ} → now ≡ written l b xs → at ≡ b + length xs → b + length xs + length ys ≤ length l → after ≡ written now at ys → after ≡ written l b (xs ++ ys)
+written_behind l now xs ys b at e a h w =
+    let sizes = length-append xs ys in
+    let same = written_keeps l b xs e in
+    let so_far = e ∙ written_fits l b xs (omega arith) in
+    w ∙ written_fits now at ys (omega arith) ∙ splice_turn l now xs ys b at so_far (omega arith) a ∙ sym (written_fits l b (xs ++ ys) (omega arith))
+
+-- Five numbers, each stored as four bytes.
+pub five_numbers_stored : (l : List ℕ) (i x y z w v : ℕ) → i + 20 ≤ length l → {one two three four five : List ℕ}
+    → one ≡ written l i (bytes_of (x ∷ []))
+    → two ≡ written one (i + 4) (bytes_of (y ∷ []))
+    → three ≡ written two (i + 8) (bytes_of (z ∷ []))
+    → four ≡ written three (i + 12) (bytes_of (w ∷ []))
+    → five ≡ written four (i + 16) (bytes_of (v ∷ []))
+    → five ≡ written l i (bytes_of (x ∷ y ∷ z ∷ w ∷ v ∷ []))
+unfolding bytes_of
+five_numbers_stored l i x y z w v h {one} {two} {three} {four} a b c d e =
+    let after_two = written_behind l one (bytes_of (x ∷ [])) (bytes_of (y ∷ [])) i (i + 4) a (omega arith) (omega arith) b in
+    let after_three = written_behind l two (bytes_of (x ∷ y ∷ [])) (bytes_of (z ∷ [])) i (i + 8) after_two (omega arith) (omega arith) c in
+    let after_four = written_behind l three (bytes_of (x ∷ y ∷ z ∷ [])) (bytes_of (w ∷ [])) i (i + 12) after_three (omega arith) (omega arith) d in
+    written_behind l four (bytes_of (x ∷ y ∷ z ∷ w ∷ [])) (bytes_of (v ∷ [])) i (i + 16) after_four (omega arith) (omega arith) e
 
 -- Nothing is put, an event is put, and what is put behind what was put makes one with it.
 pub puts_none : (numbers bytes : List ℕ) (n : ℕ) → Puts numbers bytes n [] numbers bytes
