@@ -1,9 +1,10 @@
 -- Laws of the lent buffers: what one event after another leaves.
-use Rattle.std.specs.Prelude.{ℕ, ◌+◌, ◌*◌, ◌≤◌, ◌<◌, ◌≡◌, Bool, true, false, leb, List, [], ◌∷◌, ◌++◌, take, drop}
+use Rattle.std.specs.Prelude.{ℕ, suc, set, ◌+◌, ◌/◌, ◌%◌, ◌*◌, ◌≤◌, ◌<◌, ◌≡◌, Bool, true, false, leb, List, [], ◌∷◌, ◌++◌, take, drop}
 use Rattle.std.proofs.Math.Path.{refl}
 use Rattle.std.proofs.Common.{sym, ◌∙◌, ap, append_assoc, append-nil, arith, length-append, length-drop, drop_at, leb-true, leb-false}
 use Rattle.std.proofs.Math.ListN.{length}
 use Rattle.std.proofs.Math.Seq.{take-append_seam}
+use Rattle.std.proofs.lemmas.List.Edits.{sets-eq}
 use Rattle.rules.specs.Lent.{bytes_of}
 use Rattle.rules.specs.Events.{Event, event_width}
 use Rattle.rules.specs.Reader.{event_numbers}
@@ -49,6 +50,16 @@ written_behind l now xs ys b at e a h w =
     let same = written_keeps l b xs e in
     let so_far = e ∙ written_fits l b xs (omega arith) in
     w ∙ written_fits now at ys (omega arith) ∙ splice_turn l now xs ys b at so_far (omega arith) a ∙ sym (written_fits l b (xs ++ ys) (omega arith))
+
+-- A number stored as four bytes, low byte first.
+pub four_bytes_stored : (l : List ℕ) (i x : ℕ) → i + 4 ≤ length l → set (set (set (set l i (x % 256)) (i + 1) (x / 256 % 256)) (i + 2) (x / 65536 % 256)) (i + 3) (x / 16777216 % 256) ≡ written l i (bytes_of (x ∷ []))
+unfolding bytes_of
+four_bytes_stored l i x h =
+    let one : i + 1 ≡ suc i = omega arith in
+    let two : i + 2 ≡ suc (suc i) = omega arith in
+    let three : i + 3 ≡ suc (suc (suc i)) = omega arith in
+    let bytes = x % 256 ∷ x / 256 % 256 ∷ x / 65536 % 256 ∷ x / 16777216 % 256 ∷ [] in
+    rw (one, two, three) (sets-eq bytes l i h ∙ append_assoc (take i l) bytes (drop (i + 4) l)) ∙ sym (written_fits l i (bytes_of (x ∷ [])) h)
 
 -- Five numbers, each stored as four bytes.
 pub five_numbers_stored : (l : List ℕ) (i x y z w v : ℕ) → i + 20 ≤ length l → {one two three four five : List ℕ}

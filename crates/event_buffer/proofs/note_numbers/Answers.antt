@@ -8,7 +8,7 @@ use Rattle.rules.specs.Events.{event_width}
 use Rattle.std.proofs.Common.{append_assoc}
 use Rattle.std.proofs.Math.ListN.{length, take}
 use Rattle.std.proofs.lemmas.List.Edits.{sets-eq}
-use Rattle.std.specs.Prelude.{ℕ, suc, ◌+◌, ◌≤◌, ◌≡◌, List, ◌++◌, drop, set}
+use Rattle.std.specs.Prelude.{ℕ, suc, ◌+◌, ◌≤◌, ◌≡◌, List, drop, set}
 use Rattle.numbers.specs.Stores.{spliced, written_fits, written_not}
 use Rattle.event_buffer.proofs.note_numbers.Goals as goal
 
