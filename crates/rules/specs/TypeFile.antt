@@ -281,10 +281,14 @@ element_with at size start end content repeated attributes =
 abbrev pub with_list : Element → List Attribute → Element
 with_list e xs = element_with e.at e.size e.start e.end e.content e.repeated xs
 
+-- The number of the element with the name of this size at `at`, from 1; 0 if none has it. The first of these has the number k.
+unfoldable pub declared_from : ℕ → List ℕ → List Element → (at size : ℕ) → ℕ
+declared_from k s [] at size = 0
+declared_from k s (e ∷ es) at size = elim (same_name s e.at e.size at size) [ true ↦ k | false ↦ declared_from (k + 1) s es at size ]
+
 -- An element declared before has the name of this size at `at`.
-unfoldable pub is_declared : List ℕ → List Element → ℕ → ℕ → Bool
-is_declared s [] at size = false
-is_declared s (e ∷ es) at size = elim (same_name s e.at e.size at size) [ true ↦ true | false ↦ is_declared s es at size ]
+abbrev pub is_declared : List ℕ → List Element → (at size : ℕ) → Bool
+is_declared s es at size = leb 1 (declared_from 1 s es at size)
 
 -- What fits nowhere between parameters is number 4 there. But a "-" at the input's end could still have opened a comment.
 abbrev pub unfit : {A : Type 0} → List ℕ → ℕ → Reading A
@@ -422,7 +426,7 @@ is_token s [] at size = false
 is_token s (p ∷ ps) at size = same_name s p.at p.size at size || is_token s ps at size
 
 -- A token at i: "letters, digits, "." and "-", 1 to 8 long, a longer one 3 at its first byte". `ps` are the tokens of the group before it, `seen`
--- those of the list's groups before.
+-- those of the list's groups before. ""[" as token" is number 5 in a group of either kind.
 unfoldable pub group_token : (long : ℕ) → List ℕ → (seen ps : List Part) → (i : ℕ) → Reading Part
 group_token long s seen ps i =
     let e = name_end s i in
@@ -434,7 +438,7 @@ group_token long s seen ps i =
           | false ↦ elim (is_token s (seen ++ ps) i (e - i)) [ true ↦ refused 20 i | false ↦ got (record { at = i; size = e - i }) ]
         ]
       ]
-      | false ↦ elim (eqb (byte_at s i) PERO) [ true ↦ refused 5 i | false ↦ refused 4 i ]
+      | false ↦ elim (eqb (byte_at s i) DSO || eqb (byte_at s i) PERO) [ true ↦ refused 5 i | false ↦ refused 4 i ]
     ]
 
 -- The tokens of a group and where it ends.
@@ -607,11 +611,6 @@ unfoldable pub list_from : (long : ℕ) → List ℕ → (from : ℕ) → Readin
 list_from long s from = definitions long s (suc ATTCNT) [] from
 
 -- Attribute definition lists
-
--- The number of the element with the name of this size at `at`, from 1; 0 if none has it. The first of these has the number k.
-unfoldable pub declared_from : ℕ → List ℕ → List Element → (at size : ℕ) → ℕ
-declared_from k s [] at size = 0
-declared_from k s (e ∷ es) at size = elim (same_name s e.at e.size at size) [ true ↦ k | false ↦ declared_from (k + 1) s es at size ]
 
 -- The element with this number has a list.
 unfoldable pub is_listed : List AttList → ℕ → Bool
