@@ -281,12 +281,13 @@ element_with at size start end content repeated attributes =
 abbrev pub with_list : Element → List Attribute → Element
 with_list e xs = element_with e.at e.size e.start e.end e.content e.repeated xs
 
--- The number of the element with the name of this size at `at`, from 1; 0 if none has it. The first of these has the number k.
+-- The number of the element with the name of this size at `at`, from 1; 0 if none has it. The first of these
+-- has the number k.
 unfoldable pub declared_from : ℕ → List ℕ → List Element → (at size : ℕ) → ℕ
 declared_from k s [] at size = 0
 declared_from k s (e ∷ es) at size = elim (same_name s e.at e.size at size) [ true ↦ k | false ↦ declared_from (k + 1) s es at size ]
 
--- An element declared before has the name of this size at `at`.
+-- An element declared before has the name of this size at `at`: exactly where that number is not 0.
 abbrev pub is_declared : List ℕ → List Element → (at size : ℕ) → Bool
 is_declared s es at size = leb 1 (declared_from 1 s es at size)
 
@@ -425,8 +426,9 @@ unfoldable pub is_token : List ℕ → List Part → (at size : ℕ) → Bool
 is_token s [] at size = false
 is_token s (p ∷ ps) at size = same_name s p.at p.size at size || is_token s ps at size
 
--- A token at i: "letters, digits, "." and "-", 1 to 8 long, a longer one 3 at its first byte". `ps` are the tokens of the group before it, `seen`
--- those of the list's groups before. ""[" as token" is number 5 in a group of either kind.
+-- A token at i: "letters, digits, "." and "-", 1 to 8 long, a longer one 3 at its first byte". `ps` are the
+-- tokens of the group before it, `seen` those of the list's groups before. ""[" as token" names no kind of
+-- group, so it is 5 here too, though ISO 8879 has no such form here (docs/DECISIONS.md).
 unfoldable pub group_token : (long : ℕ) → List ℕ → (seen ps : List Part) → (i : ℕ) → Reading Part
 group_token long s seen ps i =
     let e = name_end s i in
