@@ -1018,7 +1018,7 @@ impl TypeReader<'_> {
             self.skip_separators();
             let position = self.at;
             match self.byte()? {
-                b'%' => return Err((position, 5)),
+                b'%' | b'[' => return Err((position, 5)),
                 byte if is_name_byte(byte) => {}
                 _ => return Err((position, 4)),
             }

@@ -7,7 +7,7 @@ use Rattle.std.proofs.Common.{◌∙◌, true≢false, arith, eqb-true, ltb-true
 use Rattle.std.proofs.Math.Bool.{or-false, or_assoc, or-true}
 use mathlib.Core.List.{List, [], ◌∷◌, ◌++◌}
 use Rattle.basic_laws.specs.Truth.{and_left}
-use Rattle.rules.specs.Bytes.{byte_at, name_byte, name_end, separators_end, GRPCNT, GRPC, PERO}
+use Rattle.rules.specs.Bytes.{byte_at, name_byte, name_end, separators_end, GRPCNT, DSO, GRPC, PERO}
 use Rattle.rules.specs.Reading.{Reading, got, refused}
 use Rattle.rules.specs.Attributes.{Part, DeclaredValue, cdata, number, name, is_one_of, fits}
 use Rattle.rules.specs.TypeFile.{is_token, group_token, TokensEnd, is_token_connector, group_tokens, token_group}
@@ -48,7 +48,7 @@ module _ (long : ℕ) (s : List ℕ) (seen : List Part) where
       (λ x. either (ltb long (e - i)) (λ y. stops tt)
       (λ y. either (leb GRPCNT (length ps)) (λ z. stops tt)
       (λ z. either (is_token s (seen ++ ps) i (e - i)) (λ u. stops tt) (λ u. reads (ltb-true i e x, refl)))))
-      (λ x. either (eqb (byte_at s i) PERO) (λ y. stops tt) (λ y. stops tt))
+      (λ x. either (eqb (byte_at s i) DSO || eqb (byte_at s i) PERO) (λ y. stops tt) (λ y. stops tt))
 
   -- What one turn gives: the group ends behind the token at i, or goes on behind a connector.
   data Step (left : ℕ) (ps : List Part) (i : ℕ) (t : TokensEnd) : Type 0 where

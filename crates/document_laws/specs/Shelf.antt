@@ -5,7 +5,7 @@ use Rattle.rules.specs.Settings.{Settings, settings, first_edition, is_offered}
 use Rattle.rules.specs.Bytes.{allowed, separator, letter, fold, name_byte, span, name_end, separators_end, same_text}
 use Rattle.rules.specs.Reading.{Reading, refused, got}
 use Rattle.rules.specs.TypeFile.{before_dashes, gap_within, gap, occurrence, name_token, data_token, token, further, members, group}
-use Rattle.rules.specs.TypeFile.{is_declared, element_name, omission, words, head, content_word, content_model, content, close, rest, element}
+use Rattle.rules.specs.TypeFile.{declared_from, element_name, omission, words, head, content_word, content_model, content, close, rest, element}
 use Rattle.rules.specs.Attributes.{needs_tag}
 use Rattle.rules.specs.TypeFile.{comment_declaration, keyword, markup, declaration, declarations_within, attributes_of, listed, type_file}
 use Rattle.rules.specs.Judge.{place_at, first_repeated}
@@ -82,5 +82,5 @@ shelf =
     []
 
 pub shelf_right : All (Right eight (λ (x : Example). x.type) (ReadSo eight)) shelf
-unfolding is_offered ascii rest_of_t T T- under whole shelf all_pass passes reads_as is_legible all_fair is_fair is_numbered are_numbered first_repeated same_reading same_events same_event search fits_in is_complete_in required_for tagged settle_piece all_listed all_fit none_missing attributed piece_attributed attribute_events attributes_before with_attributes at_once is_ignored record_ends line_after cut cut_before_ends records_settled piece_under pieces_within document element_at number_from number_of with_data limited is_open inferable chain infer_starts inward settle_from settle start_element take_data take_blank end_left_out close_from end_element end_from end_document tag specifications start_tag_at declaration_piece markup_piece byte_piece piece place_at allowed separator letter fold name_byte span name_end separators_end same_text before_dashes gap_within gap occurrence name_token data_token token further members group is_declared element_name omission words head content_word content_model content close rest element comment_declaration keyword markup declaration declarations_within needs_tag attributes_of listed type_file
+unfolding is_offered ascii rest_of_t T T- under whole shelf all_pass passes reads_as is_legible all_fair is_fair is_numbered are_numbered first_repeated same_reading same_events same_event search fits_in is_complete_in required_for tagged settle_piece all_listed all_fit none_missing attributed piece_attributed attribute_events attributes_before with_attributes at_once is_ignored record_ends line_after cut cut_before_ends records_settled piece_under pieces_within document element_at number_from number_of with_data limited is_open inferable chain infer_starts inward settle_from settle start_element take_data take_blank end_left_out close_from end_element end_from end_document tag specifications start_tag_at declaration_piece markup_piece byte_piece piece place_at allowed separator letter fold name_byte span name_end separators_end same_text before_dashes gap_within gap occurrence name_token data_token token further members group declared_from element_name omission words head content_word content_model content close rest element comment_declaration keyword markup declaration declarations_within needs_tag attributes_of listed type_file
 shelf_right = all_right eight (λ (x : Example). x.type) (reads_as eight) (reads_so eight) shelf refl

@@ -1,15 +1,16 @@
 -- Laws of the table of elements: the records in it, and a name looked for among them.
-use Rattle.std.specs.Prelude.{ℕ, zero, suc, ◌+◌, ◌*◌, ◌≤◌, ◌<◌, ◌≡◌, refl, Bool, true, false, List, [], ◌∷◌, length, drop, get_or, eqb}
-use Rattle.std.proofs.Common.{sym, ap, ◌∙◌, arith, not-suc-le-zero, le_of_suc-le-suc, suc-add, get_or-take, eq-eqb, ne_eqb}
+use Rattle.std.specs.Prelude.{ℕ, Option, Some, None, is_some, IfSome, zero, suc, ◌+◌, ◌*◌, ◌≤◌, ◌<◌, ◌≡◌, refl, Bool, true, false, List, [], ◌∷◌, length, drop, get_or, eqb, leb}
+use Rattle.std.proofs.Common.{sym, ap, ◌∙◌, arith, not-suc-le-zero, le_of_suc-le-suc, suc-add, get_or-take, eq-eqb, ne_eqb, le-leb}
 use Rattle.std.proofs.lemmas.Bool.{false≢true}
 use Rattle.std.proofs.Math.ListN.{drop_of_length-le}
 use Rattle.rules.specs.Bytes.{byte_at, fold, same_text}
-use Rattle.rules.specs.TypeFile.{Content, empty, model, is_declared}
+use Rattle.rules.specs.TypeFile.{Content, empty, model, declared_from}
 use Rattle.rules.specs.TypeFile as rules
 use Rattle.rules.specs.Judge.{records, content_numbers, record_width}
 use Rattle.rules.specs.Elements.{is_named}
 use Rattle.rules.specs.Lookup.{is_alike, compared}
-use Rattle.element_names.specs.Names.{Recorded, name_at}
+use Rattle.layout.specs.declared.ElementNo.{ElementNo}
+use Rattle.element_names.specs.Names.{Recorded, name_at, number_of}
 
 -- The six numbers of an element's record.
 abbrev pub record_of : rules.Element → List ℕ
@@ -90,7 +91,7 @@ module _ (s elements : List ℕ) (k at size : ℕ) {m : ℕ} (read : m ≡ get_o
 
 -- A lookup of the name of this size at `at`: with n names compared, what is found among the elements from the k-th on is what is found among all.
 pub record Seeks (s : List ℕ) (es : List rules.Element) (at size k n : ℕ) : Type 0 where
-  pub answer : is_declared s (drop k es) at size ≡ is_declared s es at size
+  pub answer : declared_from (k + 1) s (drop k es) at size ≡ declared_from 1 s es at size
   pub count : n + compared s (drop k es) s at size ≡ compared s es s at size
 
 module _ (s : List ℕ) (at size : ℕ) where
@@ -99,17 +100,18 @@ module _ (s : List ℕ) (at size : ℕ) where
 
   -- One element is passed.
   module _ (e : rules.Element) (es : List rules.Element) where
-    here_answer : is_named s e s at size ≡ true → is_declared s (e ∷ es) at size ≡ true
-    unfolding is_declared
-    here_answer q = rw (q, is_declared)
+    here_answer : (k : ℕ) → is_named s e s at size ≡ true → declared_from k s (e ∷ es) at size ≡ k
+    unfolding declared_from
+    here_answer k q = rw (q, declared_from)
 
     here_count : is_alike s e s at size ≡ true → is_named s e s at size ≡ true → compared s (e ∷ es) s at size ≡ 1
     unfolding compared
     here_count a q = rw (a, q, compared)
 
-    later_answer : is_named s e s at size ≡ false → is_declared s (e ∷ es) at size ≡ is_declared s es at size
-    unfolding is_declared
-    later_answer q = rw (q, is_declared)
+    later_answer : (k : ℕ) → is_named s e s at size ≡ false
+        → declared_from k s (e ∷ es) at size ≡ declared_from (k + 1) s es at size
+    unfolding declared_from
+    later_answer k q = rw (q, declared_from)
 
     later_count : is_alike s e s at size ≡ true → is_named s e s at size ≡ false → compared s (e ∷ es) s at size ≡ suc (compared s es s at size)
     unfolding compared
@@ -134,30 +136,54 @@ module _ (s : List ℕ) (at size : ℕ) where
         by_size true z = rw (z, is_named, ← x.at) q
         by_size false z = absurd (false≢true (rw z at (alike_is a)))
 
-    pub seeks_found : is_alike s (name_at elements k) s at size ≡ true → same_text s (get_or elements (record_width * k) 0) s at size ≡ true → {m : ℕ} → m ≡ n + 1
-        → (true ≡ is_declared s es at size) × (m ≡ compared s es s at size)
-    seeks_found a q e =
+    pub seeks_found : is_alike s (name_at elements k) s at size ≡ true
+        → same_text s (get_or elements (record_width * k) 0) s at size ≡ true → {j m : ℕ} → j ≡ k + 1 → m ≡ n + 1
+        → (j ≡ declared_from 1 s es at size) × (m ≡ compared s es s at size)
+    seeks_found a q f e =
         let w = named_is a q in
-        let c : compared s (drop k es) s at size ≡ 1 = rw x.stands (here_count x.element (drop (k + 1) es) (alike_is a) w) in
-        (sym (rw x.stands (here_answer x.element (drop (k + 1) es) w)) ∙ seeks.answer, omega (arith, seeks.count))
+        let rest = drop (k + 1) es in
+        let d : declared_from (k + 1) s (drop k es) at size ≡ k + 1 =
+        rw x.stands (here_answer x.element rest (k + 1) w) in
+        let c : compared s (drop k es) s at size ≡ 1 = rw x.stands (here_count x.element rest (alike_is a) w) in
+        (f ∙ sym d ∙ seeks.answer, omega (arith, seeks.count))
 
-    pub seeks_other : is_alike s (name_at elements k) s at size ≡ true → same_text s (get_or elements (record_width * k) 0) s at size ≡ false → {m : ℕ} → m ≡ n + 1 → Seeks s es at size (k + 1) m
+    pub seeks_other : is_alike s (name_at elements k) s at size ≡ true
+        → same_text s (get_or elements (record_width * k) 0) s at size ≡ false → {m : ℕ} → m ≡ n + 1
+        → Seeks s es at size (k + 1) m
     seeks_other a q e =
         let w = named_is a q in
-        let d : is_declared s (drop k es) at size ≡ is_declared s (drop (k + 1) es) at size = rw x.stands (later_answer x.element (drop (k + 1) es) w) in
-        let c : compared s (drop k es) s at size ≡ suc (compared s (drop (k + 1) es) s at size) = rw x.stands (later_count x.element (drop (k + 1) es) (alike_is a) w) in
+        let rest = drop (k + 1) es in
+        let d : declared_from (k + 1) s (drop k es) at size ≡ declared_from (k + 1 + 1) s rest at size =
+        rw x.stands (later_answer x.element rest (k + 1) w) in
+        let c : compared s (drop k es) s at size ≡ suc (compared s rest s at size) =
+        rw x.stands (later_count x.element rest (alike_is a) w) in
         record { answer = sym d ∙ seeks.answer; count = omega (arith, seeks.count) }
 
-    pub seeks_passed : 1 ≤ size → is_alike s (name_at elements k) s at size ≡ false → {m : ℕ} → m ≡ n → Seeks s es at size (k + 1) m
+    pub seeks_passed : 1 ≤ size → is_alike s (name_at elements k) s at size ≡ false → {m : ℕ} → m ≡ n
+        → Seeks s es at size (k + 1) m
     seeks_passed l a e =
         let w = unlike_other s x.element s at size l (alike_is a) in
-        let d : is_declared s (drop k es) at size ≡ is_declared s (drop (k + 1) es) at size = rw x.stands (later_answer x.element (drop (k + 1) es) w) in
-        let c : compared s (drop k es) s at size ≡ compared s (drop (k + 1) es) s at size = rw x.stands (passed_count x.element (drop (k + 1) es) (alike_is a)) in
+        let rest = drop (k + 1) es in
+        let d : declared_from (k + 1) s (drop k es) at size ≡ declared_from (k + 1 + 1) s rest at size =
+        rw x.stands (later_answer x.element rest (k + 1) w) in
+        let c : compared s (drop k es) s at size ≡ compared s rest s at size =
+        rw x.stands (passed_count x.element rest (alike_is a)) in
         record { answer = sym d ∙ seeks.answer; count = omega (arith, seeks.count) }
 
   -- Behind the last element the name is not declared.
-  pub seeks_none : (es : List rules.Element) (k n : ℕ) → length es ≤ k → Seeks s es at size k n → (false ≡ is_declared s es at size) × (n ≡ compared s es s at size)
-  unfolding is_declared compared
+  pub seeks_none : (es : List rules.Element) (k n : ℕ) → length es ≤ k → Seeks s es at size k n
+      → (0 ≡ declared_from 1 s es at size) × (n ≡ compared s es s at size)
+  unfolding declared_from compared
   seeks_none es k n h seeks =
       let d = drop_of_length-le es h in
       (rw d at seeks.answer, omega (arith, rw d at seeks.count))
+
+-- An element that was looked for is found or not.
+pub number_none : (r : Option ElementNo) → ((e : ElementNo) → r ≡ Some e → ⊥) → number_of r ≡ 0
+number_none None h = refl
+number_none (Some e) h = absurd (h e refl)
+
+pub number_some : (n : ℕ) (r : Option ElementNo) {k : ℕ} → IfSome r (λ e. (1 ≤ e.0) × (e.0 ≤ n)) → number_of r ≡ k
+    → {b : Bool} → b ≡ is_some r → b ≡ leb 1 k
+number_some n None w q h = rw (← q) h
+number_some n (Some e) w q h = h ∙ sym (rw (← q) (le-leb 1 e.0 w.0))

@@ -5,7 +5,7 @@ use Rattle.std.proofs.Common.{sym, ◌∙◌, ap, append-nil, append_assoc, add-
 use Rattle.std.proofs.Math.Bool.{or-false, or_assoc, or-true}
 use Rattle.std.proofs.Math.Decide.{ℕ_discrete}
 use borrow.Author.Tests.{eq-eqb, ne_eqb, lt-ltb, le-ltb, le-leb, lt-leb}
-use Rattle.rules.specs.Bytes.{byte_at, name_end, separators_end, same_text, GRPCNT, GRPC, PERO}
+use Rattle.rules.specs.Bytes.{byte_at, name_end, separators_end, same_text, GRPCNT, DSO, GRPC, PERO}
 use Rattle.rules.specs.Reading.{Reading, refused, got, and_then}
 use Rattle.rules.specs.Attributes.{Part}
 use Rattle.rules.specs.TypeFile.{same_name, is_token, group_token, TokensEnd, is_token_connector, group_tokens, token_group}
@@ -75,13 +75,14 @@ module _ (s seen : List ℕ) (k at size m : ℕ) (sized : m ≡ get_or seen (2 *
 -- A token is read by the tests that the code makes.
 
 module _ (long : ℕ) (s : List ℕ) (ts ps : List Part) (i e : ℕ) (ends : e ≡ name_end s i) where
-  pub token_percent : e ≡ i → byte_at s i ≡ PERO → group_token long s ts ps i ≡ refused 5 i
-  unfolding group_token
-  token_percent h b = rw (group_token, ← ends, le-ltb i e (omega arith), eq-eqb _ _ b)
+  module _ (none : e ≡ i) {b : Bool} (test : b ≡ (eqb (byte_at s i) DSO || eqb (byte_at s i) PERO)) where
+    pub token_left_out : b ≡ true → group_token long s ts ps i ≡ refused 5 i
+    unfolding group_token
+    token_left_out h = rw (group_token, ← ends, le-ltb i e (omega arith), ← test, h)
 
-  pub token_none : e ≡ i → (byte_at s i ≡ PERO → ⊥) → group_token long s ts ps i ≡ refused 4 i
-  unfolding group_token
-  token_none h b = rw (group_token, ← ends, le-ltb i e (omega arith), ne_eqb _ _ b)
+    pub token_none : b ≡ false → group_token long s ts ps i ≡ refused 4 i
+    unfolding group_token
+    token_none h = rw (group_token, ← ends, le-ltb i e (omega arith), ← test, h)
 
   module _ (some : i < e) where
     pub token_long : long < e - i → group_token long s ts ps i ≡ refused 3 i

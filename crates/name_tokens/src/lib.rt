@@ -8,7 +8,7 @@
 #![tactic(auto)]
 
 ghost use Rattle.std.specs.Prelude.{◌≡◌, ◌&&◌, ◌||◌, List, [], ◌∷◌, ◌++◌, ◌+◌, ◌≤◌, ◌<◌, ◌*◌, length, eqb};
-ghost use Rattle.rules.specs.Bytes.{ATTCNT, GRPCNT, type_limit};
+ghost use Rattle.rules.specs.Bytes.{ATTCNT, DSO, GRPCNT, PERO, type_limit};
 ghost use Rattle.rules.specs.Attributes.{Part};
 ghost use Rattle.rules.specs.TypeFile.{same_name, is_token, is_token_connector, group_token, token_group};
 ghost use Rattle.layout.specs.Sizes.{TOKENS};
@@ -49,7 +49,16 @@ fn is_seen(s: &[u8], seen: &[u16; TOKENS], n: usize, at: usize, size: usize) -> 
     false
 }
 
-// The token at i, the k-th of its group from 0, after n of the list, and where it ends.
+// Whether a byte where a token may stand begins a form that is left out: "[" or "%".
+fn is_left_out(b: u8) -> bool
+    ensures { result ≡ (eqb b DSO || eqb b PERO) }
+{
+    b == b'[' || b == b'%'
+}
+
+// The token at i, the k-th of its group from 0, after n of the list, and where it ends. Where the first n
+// tokens of `seen` do not end with k of the group, the answer is unspecified, but that a token that is read
+// has a byte, ends in the input, and is at most the 32nd of its group.
 fn token_at(
     long: usize,
     s: &[u8],
@@ -64,7 +73,7 @@ fn token_at(
 {
     let e = text::name_end(s, i);
     if e == i {
-        if text::byte(s, i) == b'%' {
+        if is_left_out(text::byte(s, i)) {
             return Err(Refusal::LeftOut.at(i));
         }
         return Err(Refusal::Malformed.at(i));
@@ -98,7 +107,8 @@ fn put_token(seen: &mut [u16; TOKENS], n: usize, at: usize, size: usize)
     seen[2 * n + 1] = size as u16;
 }
 
-// The group whose "(" stands at `at`, in a list that has n tokens so far. Where it is refused, what `seen` holds is not decided.
+// The group whose "(" stands at `at`, in a list that has n tokens so far. Where it is refused, what `seen`
+// holds is unspecified; where it is read, only what `seen` holds behind the tokens of the list is.
 pub fn group_at(
     long: usize,
     s: &[u8],

@@ -11,7 +11,7 @@ use Rattle.std.proofs.Math.ListN.{length, length-append}
 use Rattle.std.proofs.Math.Dec.{eqb, leb, ltb}
 use borrow.Author.Tests.{ltb-true, ltb-false, leb-true, leb-false}
 use Rattle.basic_laws.specs.Truth.{and_right}
-use Rattle.rules.specs.Bytes.{byte_at, letter, name_end, separators_end, GRPCNT, ATTCNT, GRPC, GRPO, MDC, PERO, RNI}
+use Rattle.rules.specs.Bytes.{byte_at, letter, name_end, separators_end, GRPCNT, ATTCNT, DSO, GRPC, GRPO, MDC, PERO, RNI}
 use Rattle.rules.specs.Reading.{Reading, refused, got}
 use Rattle.rules.specs.Attributes.{Part, bytes_in, quote, in_literal, literal_end, DeclaredValue, cdata, number, name, tokens, Default, required, implied, literal, Attribute, attribute_of, fits}
 use Rattle.rules.specs.TypeFile.{gap, is_word, is_cut, CDATA, NUMBER, NAME, REQUIRED, IMPLIED, unfit, is_token, group_token, TokensEnd, is_token_connector, group_tokens, token_group, tokens_of, attribute_name, ValueEnd, value_word, declared_value, DefaultEnd, default_word, default_literal, is_group, default_value, Definition, definition, ListEnd, definitions, list_from}
@@ -132,7 +132,7 @@ module _ (long : ℕ) (s : List ℕ) where
       (λ y. either (leb GRPCNT (length ps)) (λ z. early s (omega arith))
       (λ z. either (is_token s (seen ++ ps) i (e - i)) (λ u. twice s h)
       (λ u. reads (record { at = refl; part = record { some = omega (arith, ltb-true i e x); ends = omega (arith, ltb-true i e x) }; few = leb-false _ _ z })))))
-      (λ x. either (eqb (byte_at s i) PERO) (λ y. early s (omega arith)) (λ y. early s (omega arith)))
+      (λ x. either (eqb (byte_at s i) DSO || eqb (byte_at s i) PERO) (λ y. early s (omega arith)) (λ y. early s (omega arith)))
 
   record TokensRead (at : ℕ) (t : TokensEnd) : Type 0 where
     from : at < t.at
@@ -349,7 +349,7 @@ module _ (long : ℕ) (s : List ℕ) where
       let e = name_end s i in
       either (ltb i e)
       (λ x. either (ltb long (e - i)) (λ y. stops tt) (λ y. either (leb GRPCNT (length ps)) (λ z. stops tt) (λ z. either (is_token s (seen ++ ps) i (e - i)) (λ u. stops tt) (λ u. reads (leb-false _ _ z)))))
-      (λ x. either (eqb (byte_at s i) PERO) (λ y. stops tt) (λ y. stops tt))
+      (λ x. either (eqb (byte_at s i) DSO || eqb (byte_at s i) PERO) (λ y. stops tt) (λ y. stops tt))
 
   pub group_tokens_enough : (seen : List Part) (m n connector : ℕ) (ps : List Part) (at : ℕ) → length ps ≤ GRPCNT → GRPCNT < m + length ps → GRPCNT < n + length ps → group_tokens long s seen m connector ps at ≡ group_tokens long s seen n connector ps at
   unfolding group_tokens

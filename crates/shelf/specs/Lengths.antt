@@ -4,7 +4,7 @@ use Prim.Native.String.{String}
 use Rattle.rules.specs.Bytes.{separator, letter, fold, name_byte, span, name_end, separators_end, same_text}
 use Rattle.rules.specs.Reading.{Reading, refused, got, and_then}
 use Rattle.rules.specs.TypeFile.{before_dashes, gap_within, gap, occurrence, name_token, data_token, token, further, members, group}
-use Rattle.rules.specs.TypeFile.{is_declared, element_name, omission, words, head, content_word, content_model, content, close, rest, element}
+use Rattle.rules.specs.TypeFile.{declared_from, element_name, omission, words, head, content_word, content_model, content, close, rest, element}
 use Rattle.rules.specs.TypeFile.{comment_declaration, keyword, markup, declaration, declarations_within, attributes_of, listed, type_file}
 use Rattle.rules.specs.Document.{Piece, start_tag, end_tag, tag, specifications, start_tag_at, markup_piece, piece}
 use Rattle.rules_laws.specs.In.{All, none, more}
@@ -39,7 +39,7 @@ types =
     []
 
 pub types_right : All DeclaresSo types
-unfolding ascii under types separator letter fold name_byte span name_end separators_end same_text before_dashes gap_within gap occurrence name_token data_token token further members group is_declared element_name omission words head content_word content_model content close rest element comment_declaration keyword markup declaration declarations_within attributes_of listed type_file
+unfolding ascii under types separator letter fold name_byte span name_end separators_end same_text before_dashes gap_within gap occurrence name_token data_token token further members group declared_from element_name omission words head content_word content_model content close rest element comment_declaration keyword markup declaration declarations_within attributes_of listed type_file
 types_right = more refl (more refl (more refl (more refl (more refl (more refl (more refl (more refl (more refl none))))))))
 
 -- A tag at the beginning of a document, under a length.

@@ -6,7 +6,7 @@ use Rattle.std.proofs.Common.{eqb-true}
 use Rattle.rules.specs.Bytes.{separator, letter, fold, name_byte, span, name_end, separators_end, same_text}
 use Rattle.rules.specs.Reading.{got}
 use Rattle.rules.specs.TypeFile.{before_dashes, gap_within, gap, occurrence, name_token, data_token, token, further, members, group}
-use Rattle.rules.specs.TypeFile.{is_declared, element_name, omission, words, head, content_word, content_model, content, close, rest, element}
+use Rattle.rules.specs.TypeFile.{declared_from, element_name, omission, words, head, content_word, content_model, content, close, rest, element}
 use Rattle.rules.specs.TypeFile.{comment_declaration, keyword, markup, declaration, declarations_within, Element, attributes_of, listed, type_file}
 use Rattle.rules.specs.Judge.{place_at}
 use Rattle.rules.specs.Elements.{number_from, number_of}
@@ -62,5 +62,5 @@ lookups =
     []
 
 pub lookups_right : All (Right eight (λ (x : Example). x.type) LooksUp) lookups
-unfolding ascii T+ named lookups all_pass passes reads_as number_from number_of compared place_at separator letter fold name_byte span name_end separators_end same_text before_dashes gap_within gap occurrence name_token data_token token further members group is_declared element_name omission words head content_word content_model content close rest element comment_declaration keyword markup declaration declarations_within attributes_of listed type_file
+unfolding ascii T+ named lookups all_pass passes reads_as number_from number_of compared place_at separator letter fold name_byte span name_end separators_end same_text before_dashes gap_within gap occurrence name_token data_token token further members group declared_from element_name omission words head content_word content_model content close rest element comment_declaration keyword markup declaration declarations_within attributes_of listed type_file
 lookups_right = all_right eight (λ (x : Example). x.type) reads_as (looks_up eight.name_length) lookups refl

@@ -2,7 +2,7 @@
 use Rattle.std.specs.Prelude.{ℕ, refl, List, [], ◌∷◌, ◌++◌}
 use Rattle.rules.specs.Bytes.{separator, letter, fold, name_byte, span, name_end, separators_end, same_text}
 use Rattle.rules.specs.TypeFile.{before_dashes, gap_within, gap, occurrence, name_token, data_token, token, further, members, group}
-use Rattle.rules.specs.TypeFile.{is_declared, element_name, omission, words, head, content_word, content_model, content, close, rest, element}
+use Rattle.rules.specs.TypeFile.{declared_from, element_name, omission, words, head, content_word, content_model, content, close, rest, element}
 use Rattle.rules.specs.TypeFile.{comment_declaration, keyword, markup, declaration, declarations_within, attributes_of, listed, type_file}
 use Rattle.rules.specs.Judge.{place_at, first_repeated}
 use Rattle.rules_laws.specs.In.{All}
@@ -39,5 +39,5 @@ shelf =
     []
 
 pub shelf_right : All (Right eight (λ (x : Example). x.text) NamedSo) shelf
-unfolding shelf declared all_pass passes reads_as of_content is_pair is_numbered are_numbered first_repeated place_at separator letter fold name_byte span name_end separators_end same_text before_dashes gap_within gap occurrence name_token data_token token further members group is_declared element_name omission words head content_word content_model content close rest element comment_declaration keyword markup declaration declarations_within attributes_of listed type_file
+unfolding shelf declared all_pass passes reads_as of_content is_pair is_numbered are_numbered first_repeated place_at separator letter fold name_byte span name_end separators_end same_text before_dashes gap_within gap occurrence name_token data_token token further members group declared_from element_name omission words head content_word content_model content close rest element comment_declaration keyword markup declaration declarations_within attributes_of listed type_file
 shelf_right = all_right eight (λ (x : Example). x.text) reads_as (named_so eight.name_length) shelf refl

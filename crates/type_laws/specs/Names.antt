@@ -7,9 +7,10 @@ use Rattle.std.proofs.Math.Bool.{false}
 use mathlib.Core.List.{List, [], ◌∷◌}
 use native.Mathlib.Omega.{arith}
 use Rattle.std.proofs.Math.Dec.{eqb-zero-suc, eqb-suc-zero}
+use borrow.Author.Tests.{leb-false}
 use Rattle.rules.specs.Bytes.{same_text}
 use Rattle.rules.specs.Reading.{got}
-use Rattle.rules.specs.TypeFile.{Place, Element, same_name, is_declared, type_file}
+use Rattle.rules.specs.TypeFile.{Place, Element, same_name, declared_from, is_declared, type_file}
 use Rattle.rules.specs.Judge.{place_at}
 use Rattle.rules.specs.Elements.{element_at, is_named, number_from, number_of}
 use Rattle.rules.specs.Decisions.{start, pcdata, has_name}
@@ -86,13 +87,22 @@ named_same s e f t at size x y =
     is_named_join s e s f.at f.size (p ∙ sym q)
     (rw q (same_text_trans s e.at t at s f.at size a (same_text_sym s f.at t at size b)))
 
--- A name that no element has was declared by none.
-fresh_differs : (s : List ℕ) (es : List Element) (at size : ℕ) → is_declared s es at size ≡ false → (k : ℕ) → k < length es → is_named s (element_at es k) s at size ≡ false
-unfolding is_declared element_at
-fresh_differs s [] at size f k h = absurd (not-suc-le-zero h)
-fresh_differs s (e ∷ es) at size f zero h = not_true _ (λ x. true≢false (rw (x, is_declared) at f))
-fresh_differs s (e ∷ es) at size f (suc k) h =
-    bool_cases (same_name s e.at e.size at size) (λ x. absurd (true≢false (rw (x, is_declared) at f))) (λ x. fresh_differs s es at size (rw (x, is_declared) at f) k (le_of_suc-le-suc h))
+-- A name that no element has was declared by none. The first of these elements has the number n.
+none_differs : (n : ℕ) (s : List ℕ) (es : List Element) (at size : ℕ) → 1 ≤ n → declared_from n s es at size ≡ 0
+    → (k : ℕ) → k < length es → is_named s (element_at es k) s at size ≡ false
+unfolding declared_from element_at
+none_differs n s [] at size l f k h = absurd (not-suc-le-zero h)
+none_differs n s (e ∷ es) at size l f zero h =
+    not_true _ (λ x. let z : n ≡ 0 = rw (x, declared_from) at f in absurd (omega (arith, l, z)))
+none_differs n s (e ∷ es) at size l f (suc k) h =
+    bool_cases (same_name s e.at e.size at size)
+    (λ x. let z : n ≡ 0 = rw (x, declared_from) at f in absurd (omega (arith, l, z)))
+    (λ x. none_differs (n + 1) s es at size (omega arith) (rw (x, declared_from) at f) k (le_of_suc-le-suc h))
+
+fresh_differs : (s : List ℕ) (es : List Element) (at size : ℕ) → is_declared s es at size ≡ false
+    → (k : ℕ) → k < length es → is_named s (element_at es k) s at size ≡ false
+fresh_differs s es at size f =
+    none_differs 1 s es at size (omega arith) (omega (arith, leb-false 1 (declared_from 1 s es at size) f))
 
 -- These laws are of a type file that was read.
 

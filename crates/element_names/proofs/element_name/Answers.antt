@@ -1,9 +1,15 @@
 -- `element_name` meets its contract, whatever is recorded: each way by the tests that led there.
+use Rattle.std.specs.Prelude.{ℕ, ◌-◌, ◌≤◌, ◌≡◌, Bool, List, Option, is_some, IfSome}
 use Rattle.std.proofs.Common.{sym, ap, ◌∙◌, arith}
 use Rattle.rules.specs.Bytes.{letter}
+use Rattle.rules.specs.TypeFile.{declared_from, is_declared}
+use Rattle.rules.specs.TypeFile as rules
+use Rattle.layout.specs.declared.ElementNo.{ElementNo}
 use Rattle.text.specs.Refusal.{refusal_of}
 use Rattle.text.specs.Words.{tested, name_end_from, name_end_le, name_end_more}
 use Rattle.gaps.specs.Unfit.{unfit_is}
+use Rattle.element_names.specs.Names.{number_of}
+use Rattle.element_names.specs.Records.{number_some}
 use Rattle.element_names.specs.Naming.{name_long, name_again, name_many, name_got, name_group, name_unfit}
 use Rattle.element_names.proofs.element_name.Goals as goal
 
@@ -29,14 +35,20 @@ declared-requires c =
       omega (arith, name_end_le a.s.now a.i c.requires.0),
     )
 
-pub returns-then-declared : goal.returns-then-declared
-returns-then-declared c =
+-- What the lookup told: whether the name is declared.
+told : (s : List ℕ) (es : List rules.Element) (at count : ℕ) {e z : ℕ} → e ≡ z → (r : Option ElementNo)
+    → IfSome r (λ k. (1 ≤ k.0) × (k.0 ≤ count)) → number_of r ≡ declared_from 1 s es at (e - at)
+    → {b : Bool} → b ≡ is_some r → b ≡ is_declared s es at (z - at)
+told s es at count q r w f h = rw (← q) (number_some count r w f h)
+
+pub returns-then-is_some : goal.returns-then-is_some
+returns-then-is_some c =
     let a = c.args in
     let is_letter = tested letter c.byte-b.ensures c.is_letter.ensures c.if-is_letter.true in
     record {
       result_value = λ es n r.
-          ap refusal_of c.at-then-declared.ensures
-          ∙ sym (name_again a.long a.s.now a.i es is_letter (omega arith) (rw (← c.name_end-e.ensures) (sym (c.declared.ensures.found_value es n r).0 ∙ c.if-declared.true)));
+          ap refusal_of c.at-then-is_some.ensures
+          ∙ sym (name_again a.long a.s.now a.i es is_letter (omega arith) (sym (told a.s.now es a.i a.d.count c.name_end-e.ensures _ c.declared.ensures.found_in_count (c.declared.ensures.found_value es n r).0 c.is_some.ensures) ∙ c.if-is_some.true));
       name_in = tt;
     }
 
@@ -47,7 +59,7 @@ returns-then-d-ge-ELEMENTS c =
     record {
       result_value = λ es n r.
           ap refusal_of c.at-then-d-ge-ELEMENTS.ensures
-          ∙ sym (name_many a.long a.s.now a.i es is_letter (omega arith) (rw (← c.name_end-e.ensures) (sym (c.declared.ensures.found_value es n r).0 ∙ c.if-declared.false)) (omega arith));
+          ∙ sym (name_many a.long a.s.now a.i es is_letter (omega arith) (sym (told a.s.now es a.i a.d.count c.name_end-e.ensures _ c.declared.ensures.found_in_count (c.declared.ensures.found_value es n r).0 c.is_some.ensures) ∙ c.if-is_some.false) (omega arith));
       name_in = tt;
     }
 
@@ -58,7 +70,7 @@ returns-then-is_letter c =
     record {
       result_value = λ es n r.
           rw c.name_end-e.ensures
-          (sym (name_got a.long a.s.now a.i es is_letter (omega arith) (rw (← c.name_end-e.ensures) (sym (c.declared.ensures.found_value es n r).0 ∙ c.if-declared.false)) (omega arith)));
+          (sym (name_got a.long a.s.now a.i es is_letter (omega arith) (sym (told a.s.now es a.i a.d.count c.name_end-e.ensures _ c.declared.ensures.found_in_count (c.declared.ensures.found_value es n r).0 c.is_some.ensures) ∙ c.if-is_some.false) (omega arith)));
       name_in = omega (arith, name_end_from a.s.now a.i, name_end_le a.s.now a.i c.requires.0);
     }
 

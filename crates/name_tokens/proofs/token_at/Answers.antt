@@ -1,27 +1,43 @@
 -- `token_at` meets its contract: each way by the tests that led there.
 use Prim.Native.Nat.{ℕ, ◌-◌, ◌≤◌, ◌<◌}
+use Rattle.std.specs.Prelude.{Bool, ◌||◌, eqb}
 use mathlib.Core.List.{List}
 use mathlib.Core.Path.{◌≡◌, sym, ◌∙◌, ap}
 use native.Mathlib.Omega.{arith}
 use lib.ListN.{length}
-use Rattle.rules.specs.Bytes.{name_end}
+use Rattle.rules.specs.Bytes.{byte_at, name_end, DSO, PERO}
 use Rattle.rules.specs.TypeFile.{is_token}
 use Rattle.text.specs.Refusal.{refusal_of}
 use Rattle.text.specs.Words.{name_end_from, name_end_le}
-use Rattle.name_tokens.specs.TokenByToken.{token_percent, token_none, token_long, token_full, token_twice, token_got}
+use Rattle.name_tokens.specs.TokenByToken.{token_left_out, token_none, token_long, token_full, token_twice, token_got}
 use Rattle.name_tokens.proofs.token_at.Goals as goal
 
 -- The token has a byte, and ends in the text.
 some : (s : List ℕ) (i e : ℕ) → i ≤ length s → e ≡ name_end s i → (e ≡ i → ⊥) → (i < e) × (e ≤ length s)
 some s i e l h n = (omega (arith, name_end_from s i, h, n), omega (arith, name_end_le s i l, h))
 
-pub returns-then-byte-eq37 : goal.returns-then-byte-eq37
-returns-then-byte-eq37 c = let a = c.args in
-    record { result_value = λ ts ps l q. ap refusal_of c.at.ensures ∙ sym (token_percent a.long a.s.now ts ps a.i _ c.name_end-e.ensures c.if-e-i.true (sym c.byte.ensures ∙ c.if-byte-eq37.true)); token_in = tt }
+-- What the test of the byte at i told, in the rules' terms.
+test : (s : List ℕ) (i : ℕ) {b : ℕ} {r : Bool} → b ≡ byte_at s i → r ≡ (eqb b DSO || eqb b PERO)
+    → r ≡ (eqb (byte_at s i) DSO || eqb (byte_at s i) PERO)
+test s i q h = h ∙ ap (λ v. eqb v DSO || eqb v PERO) q
+
+pub returns-then-is_left_out : goal.returns-then-is_left_out
+returns-then-is_left_out c = let a = c.args in
+    let told = test a.s.now a.i c.byte.ensures c.is_left_out.ensures in record {
+      result_value = λ ts ps l q.
+          ap refusal_of c.at.ensures
+          ∙ sym (token_left_out a.long a.s.now ts ps a.i _ c.name_end-e.ensures c.if-e-i.true told c.if-is_left_out.true);
+      token_in = tt;
+    }
 
 pub returns-then-e-i : goal.returns-then-e-i
 returns-then-e-i c = let a = c.args in
-    record { result_value = λ ts ps l q. ap refusal_of c.at-then-e-i.ensures ∙ sym (token_none a.long a.s.now ts ps a.i _ c.name_end-e.ensures c.if-e-i.true (λ e. c.if-byte-eq37.false (c.byte.ensures ∙ e))); token_in = tt }
+    let told = test a.s.now a.i c.byte.ensures c.is_left_out.ensures in record {
+      result_value = λ ts ps l q.
+          ap refusal_of c.at-then-e-i.ensures
+          ∙ sym (token_none a.long a.s.now ts ps a.i _ c.name_end-e.ensures c.if-e-i.true told c.if-is_left_out.false);
+      token_in = tt;
+    }
 
 pub overflow_sub-e : goal.overflow_sub-e
 overflow_sub-e c = omega (arith, some c.args.s.now c.args.i _ c.requires.0 c.name_end-e.ensures c.if-e-i.false)

@@ -13,7 +13,10 @@ returns-then-same_text c =
     let a = c.args in
     let text = rw c.number.ensures.0 at (sym c.same_text.ensures ∙ c.if-same_text.true) in
     record {
-      found_value = λ es l r. seeks_found a.s.now a.at a.size a.self.records.now es r _ _ (omega arith) (c.loop-k.invariant.1 es l r) (sym c.is_alike.ensures ∙ c.if-is_alike.true) text (omega arith);
+      found_value = λ es l r.
+          seeks_found a.s.now a.at a.size a.self.records.now es r _ _ (omega arith) (c.loop-k.invariant.1 es l r)
+          (sym c.is_alike.ensures ∙ c.if-is_alike.true) text (omega arith) (omega arith);
+      found_in_count = omega arith;
       compared_le_count = omega arith;
     }
 
@@ -34,4 +37,8 @@ loop-k-preserved c =
 pub returns : goal.returns
 returns c =
     let a = c.args in
-    record { found_value = λ es l r. seeks_none a.s.now a.at a.size es _ _ (omega arith) (c.loop-k.invariant.1 es l r); compared_le_count = omega arith }
+    record {
+      found_value = λ es l r. seeks_none a.s.now a.at a.size es _ _ (omega arith) (c.loop-k.invariant.1 es l r);
+      found_in_count = tt;
+      compared_le_count = omega arith;
+    }
