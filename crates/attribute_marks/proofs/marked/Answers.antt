@@ -12,20 +12,20 @@ mark-requires c = (omega arith, omega arith, omega arith, omega arith, kept_in_l
 
 pub loop-k-preserved : goal.loop-k-preserved
 loop-k-preserved c = let a = c.args in
-  let inside = kept_in_lem (length a.d.now) a.given.now a.n c.requires.3 _ (omega arith) c.kept-w.result c.kept-w.ensures in (
-  omega arith,
-  elim c.match-mark.branch [
-    | in-Err+in_default-r w ↦
-        rw (w.misfit-is, w.or-misfit.ensures)
-        (going_wrong _ a.s.now a.lists.now _ a.d.now a.given.now _ _ _ _ c.loop-k.invariant.1 _ c.kept-w.ensures _ _ w.in_default-r.not-Attribute w.in-Err.ensures)
-    | in_default w ↦
-        rw w.misfit-is (going_right _ a.s.now a.lists.now _ a.d.now a.given.now _ _ _ _ c.loop-k.invariant.1 _ c.kept-w.ensures _ _ w.in_default.not-Err c.mark.ensures)
-  ],
-  elim c.match-mark.branch [
-    | in-Err+in_default-r w ↦ rw (w.misfit-is, w.or-misfit.ensures) (misfit_more c.loop-k.misfit _ c.loop-k.invariant.2 (omega (arith, inside.1)))
-    | in_default w ↦ rw w.misfit-is c.loop-k.invariant.2
-  ],
-)
+    let inside = kept_in_lem (length a.d.now) a.given.now a.n c.requires.3 _ (omega arith) c.kept-w.result c.kept-w.ensures in (
+      omega arith,
+      elim c.match-mark.branch [
+        | in-Err+in_default-r w ↦
+            rw (w.misfit-is, w.or-misfit.ensures)
+            (going_wrong _ a.s.now a.lists.now _ a.d.now a.given.now _ _ _ _ c.loop-k.invariant.1 _ c.kept-w.ensures _ _ w.in_default-r.not-Attribute w.in-Err.ensures)
+        | in_default w ↦
+            rw w.misfit-is (going_right _ a.s.now a.lists.now _ a.d.now a.given.now _ _ _ _ c.loop-k.invariant.1 _ c.kept-w.ensures _ _ w.in_default.not-Err c.mark.ensures)
+      ],
+      elim c.match-mark.branch [
+        | in-Err+in_default-r w ↦ rw (w.misfit-is, w.or-misfit.ensures) (misfit_more c.loop-k.misfit _ c.loop-k.invariant.2 (omega (arith, inside.1)))
+        | in_default w ↦ rw w.misfit-is c.loop-k.invariant.2
+      ],
+    )
 
 pub returns-in-Attribute-clause-by_list : goal.returns-in-Attribute-clause-by_list
 returns-in-Attribute-clause-by_list c = let a = c.args in
