@@ -91,10 +91,10 @@ fn required_in(m: Members, inner: usize, x: usize, b: Bits) -> Place
         return Place(0);
     }
     let p = m.required_of(x);
-    if GRPGTCNT < p {
+    if GRPGTCNT < p.0 {
         return Place(0);
     }
-    Place(p)
+    p
 }
 
 // The place p of the element e is taken at the level, after the place u; where this is 0, nothing has begun.

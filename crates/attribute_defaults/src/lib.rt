@@ -103,6 +103,7 @@ fn literal_at(long: usize, s: &[u8], x: usize, i: usize) -> Reading<Defaulted>
 }
 
 // Whether nothing parts the default at i from its declared value x, which ended at `from`: a group needs nothing between it and what follows.
+// Where x stands for no declared value it is not decided.
 fn is_joined(x: usize, from: usize, i: usize) -> bool
     ensures { (long : ℕ) (s : List ℕ) (y : rules.DeclaredValue) → DeclaredAs long s x y →
         result ≡ is_joined y from i }
@@ -113,7 +114,9 @@ fn is_joined(x: usize, from: usize, i: usize) -> bool
     }
 }
 
-// The default at i of an attribute with the declared value x, which ended at `from`.
+// The default at i of an attribute with the declared value x, which ended at `from`. Where x stands for no
+// declared value of the type file the answer is not decided, but that a default which is read ends behind i in
+// the text, and the value of a literal lies in it.
 // Kept: x is any number, and no `DeclaredValue` (fixed: docs/PROMISES.md names `default_at`).
 pub fn default_at(long: usize, s: &[u8], x: usize, from: usize, i: usize) -> Reading<Defaulted>
     requires { (1 ≤ i) × (i ≤ length s.now) × (length s.now ≤ type_limit) }

@@ -14,8 +14,8 @@ ghost use Rattle.attribute_definitions.specs.Definition.{NameFits, word_of, Word
 ghost use Rattle.attribute_definitions.specs.Definition.{MeetsDefinition, DefinitionFits};
 
 use attribute_values::DeclaredValue;
-use layout::{ATTCNT, ElementNo, LIST, TOKENS};
-use list_table::Row;
+use layout::{ATTCNT, LIST, TOKENS};
+use list_table::{ONLY, Row};
 use text::{Reading, Refusal};
 
 // A declared value, how many tokens the list has now, and where the value ends.
@@ -54,8 +54,7 @@ fn name_at(
     if i <= from {
         return Err(Refusal::Malformed.at(i));
     }
-    let one = ElementNo(1);
-    if list_table::find(s, list, one, s, i, e - i).is_some() {
+    if list_table::find(s, list, ONLY, s, i, e - i).is_some() {
         return Err(Refusal::DeclaredTwice.at(i));
     }
     if ATTCNT <= n {
@@ -136,7 +135,10 @@ fn value_at(
 }
 
 // The definition whose name, a letter, stands at i, after n attributes of the list, which have m tokens. The parameter before ended at `from`.
-// Where it is refused, what `seen` holds is not decided.
+// Where it is refused, what `seen` holds is not decided, nor anywhere what it holds behind the tokens of the list.
+// Where `list` has not n attributes, or `seen` not their tokens, neither the answer nor what `seen` holds is
+// decided, but that a definition which is read ends in the text, has numbers of 16 bits, is at most the 40th,
+// and brings at most 32 tokens.
 pub fn definition_at(
     long: usize,
     s: &[u8],

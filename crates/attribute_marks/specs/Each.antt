@@ -1,5 +1,5 @@
 -- What the functions below `check` answer, one attribute after the other.
-use Rattle.std.specs.Prelude.{ℕ, Result, Ok, Err, ◌-◌, ◌≡◌, Bool, true, false, not, ◌&&◌, List, [], ◌∷◌, ◌++◌, leb}
+use Rattle.std.specs.Prelude.{ℕ, Result, Ok, Err, ◌-◌, ◌≤◌, ◌≡◌, Bool, true, false, not, ◌&&◌, ◌⊎◌, List, [], ◌∷◌, ◌++◌, leb}
 use Rattle.rules.specs.Reading.{refused, got}
 use Rattle.rules.specs.Attributes.{Attribute, attribute_of, attribute_at, bytes_in, fits}
 use Rattle.rules.specs.Document.{Written}
@@ -29,3 +29,13 @@ pub data Given (long : ℕ) (s : List ℕ) (xs : List Attribute) (d : List ℕ) 
   unlisted : (at : ℕ) → all_listed s xs d [] ws ≡ refused 20 at → Given long s xs d ws marks (Err (fault_at refusal.Attribute at))
   unfitting : (at : ℕ) → all_listed s xs d [] ws ≡ got tt → all_fit long s xs d ws ≡ refused 22 at → Given long s xs d ws marks (Err (fault_at refusal.Value at))
   fitting : all_listed s xs d [] ws ≡ got tt → all_fit long s xs d ws ≡ got tt → Marked s xs d ws marks → Given long s xs d ws marks (Ok tt)
+
+-- Whatever the table of lists holds: what is refused of the attributes of a tag is 20 or 22, within so many bytes.
+abbrev pub GivenFits : (end : ℕ) → Result (Unit {0}) Fault → Type 0
+GivenFits end (Ok _) = Unit {0}
+GivenFits end (Err f) = (f.at ≤ end) × ((f.number ≡ 20) ⊎ (f.number ≡ 22))
+
+-- The same of the tag at `from`, where 21 may be refused too.
+abbrev pub CheckFits : (end from : ℕ) → Result (Unit {0}) Fault → Type 0
+CheckFits end from (Ok _) = Unit {0}
+CheckFits end from (Err f) = ((f.at ≤ end) × ((f.number ≡ 20) ⊎ (f.number ≡ 22))) ⊎ (f ≡ fault_at refusal.AttributeMissing from)

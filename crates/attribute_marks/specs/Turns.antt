@@ -1,9 +1,9 @@
 -- One attribute after the other: what is known behind the first k, and what one more gives.
 use Prim.Native.Nat.{ℕ, zero, suc, ◌+◌, ◌*◌, ◌≤◌, ◌<◌}
-use Rattle.std.specs.Prelude.{◌≡◌, Result, Ok, Err, Option, Some, None, length, get_or}
+use Rattle.std.specs.Prelude.{◌≡◌, Result, Ok, Err, Option, Some, None, IfSome, length, get_or}
 use Rattle.std.specs.Option.{option_or}
 use Rattle.std.proofs.Math.Path.{refl, ap}
-use Rattle.std.proofs.Common.{sym, ◌∙◌, subst, add-one}
+use Rattle.std.proofs.Common.{sym, ◌∙◌, subst, add-one, inl, inr}
 use mathlib.Core.List.{List, [], ◌∷◌, ◌++◌}
 use Rattle.std.proofs.Math.Decide.{ℕ_discrete}
 use native.Mathlib.Omega.{arith}
@@ -11,6 +11,7 @@ use Rattle.rules.specs.Reading.{Reading, refused, got}
 use Rattle.rules.specs.Attributes.{Attribute}
 use Rattle.rules.specs.Document as rules
 use Rattle.rules.specs.Given.{all_listed, all_fit, given_for}
+use Rattle.text.specs.declared.Fault.{Fault}
 use Rattle.text.specs.declared.Refusal.{Refusal}
 use Rattle.text.specs.declared.Refusal.TheVariants as refusal
 use Rattle.text.specs.Refusal.{fault_at}
@@ -19,7 +20,7 @@ use Rattle.tag_attributes.specs.declared.Written.{Written}
 use Rattle.tag_attributes.specs.Given.{written_as, kept_in, kept_of, WrittenIn, GivenIn}
 use Rattle.attribute_marks.specs.Differ.{NamesDiffer}
 use Rattle.attribute_marks.specs.Marks.{Marked}
-use Rattle.attribute_marks.specs.Each.{Marks, Given, unlisted, unfitting, fitting}
+use Rattle.attribute_marks.specs.Each.{Marks, Given, GivenFits, CheckFits, unlisted, unfitting, fitting}
 use Rattle.attribute_marks.specs.Listed.{listed_refused, listed_more, listed_ends, fit_refused, fit_more, fit_ends}
 
 -- The first misfit as it is remembered: where its literal begins.
@@ -65,6 +66,24 @@ kept_in_lem end g n f k h w e = subst (WrittenIn end) (sym e) (f k h)
 kept_more : (g : List ℕ) (k : ℕ) → kept_of g (k + 1) ≡ kept_of g k ++ written_as (kept_in g k) ∷ []
 unfolding kept_of
 kept_more g k = rw (add-one k)
+
+-- The misfit that is remembered stands within so many bytes.
+pub misfit_more : {end : ℕ} (m : Option ℕ) (q : ℕ) → IfSome m (λ (p : ℕ). p ≤ end) → q ≤ end → IfSome (option_or m (Some q)) (λ (p : ℕ). p ≤ end)
+misfit_more None q i h = h
+misfit_more (Some p) q i h = i
+
+pub misfit_within : {end q : ℕ} (m : Option ℕ) → IfSome m (λ (p : ℕ). p ≤ end) → m ≡ Some q → q ≤ end
+misfit_within m i e = rw e at i
+
+-- What is refused of those that a tag gives is so refused.
+pub refused_attribute : (end : ℕ) (r : Refusal) → r ≡ refusal.Attribute → (at : ℕ) → at ≤ end → (f : Fault) → f ≡ fault_at r at → GivenFits end (Err f)
+refused_attribute end r e at h f m = rw (m, e) (h, inl refl)
+
+pub refused_value : (end at : ℕ) → at ≤ end → (f : Fault) → f ≡ fault_at refusal.Value at → GivenFits end (Err f)
+refused_value end at h f m = rw m (h, inr refl)
+
+pub check_given : (end from : ℕ) (f : Fault) → GivenFits end (Err f) → CheckFits end from (Err f)
+check_given end from f g = inl g
 
 -- What is refused among the first k is refused among all.
 module _ (s : List ℕ) (xs : List Attribute) (d g : List ℕ) (k p : ℕ) (e : all_listed s xs d [] (kept_of g k) ≡ refused 20 p) where

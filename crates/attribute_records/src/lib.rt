@@ -11,7 +11,7 @@ ghost use Rattle.type_judge.specs.Decides.{answer_of};
 ghost use Rattle.attribute_records.specs.Recorded.{kind_of, detail_of, row_numbers, Puts, PutsList, PutsLists, ListsUnder, Decides};
 
 use inputs::Settings;
-use layout::{ATTRIBUTE_RECORD, ELEMENTS, ElementNo, LISTS, NUMBER, RECORDS};
+use layout::{ATTRIBUTE_RECORD, AttributeNo, ELEMENTS, ElementNo, LISTS, NUMBER, RECORDS};
 use list_table::Row;
 use text::{Reading, Refusal};
 use type_judge::Verdict;
@@ -36,13 +36,13 @@ fn detail(x: usize, m: usize, y: usize) -> u32
 }
 
 // The nine numbers of the attribute a of the element e.
-fn row_numbers(e: usize, a: usize, r: Row) -> [u32; ATTRIBUTE_RECORD]
-    requires { (e ≤ element_limit) × (a ≤ ATTCNT) × Short r }
-    ensures { result ≡ row_numbers e a r }
+fn row_numbers(e: ElementNo, a: AttributeNo, r: Row) -> [u32; ATTRIBUTE_RECORD]
+    requires { (e.0 ≤ element_limit) × (a.0 ≤ ATTCNT) × Short r }
+    ensures { result ≡ row_numbers e.0 a.0 r }
 {
     [
-        e as u32,
-        a as u32,
+        e.0 as u32,
+        a.0 as u32,
         r.name as u32,
         r.size as u32,
         kind(r.value, 3),
@@ -74,9 +74,16 @@ fn as_bytes(row: &[u32; ATTRIBUTE_RECORD]) -> [u8; RECORD_BYTES]
 }
 
 // The record of the attribute a of the element e, behind n records, to each buffer that it fits. What a buffer holds that is too small for all records is not decided.
-fn put_record(numbers: &mut [u32], bytes: &mut [u8], n: usize, e: usize, a: usize, r: Row)
-    requires { (n < ATTCNT * element_limit) × (e ≤ element_limit) × (a ≤ ATTCNT) × Short r }
-    ensures { Puts numbers.old bytes.old n (row_numbers e a r) numbers.new bytes.new }
+fn put_record(
+    numbers: &mut [u32],
+    bytes: &mut [u8],
+    n: usize,
+    e: ElementNo,
+    a: AttributeNo,
+    r: Row,
+)
+    requires { (n < ATTCNT * element_limit) × (e.0 ≤ element_limit) × (a.0 ≤ ATTCNT) × Short r }
+    ensures { Puts numbers.old bytes.old n (row_numbers e.0 a.0 r) numbers.new bytes.new }
 {
     let row = row_numbers(e, a, r);
     note(numbers, ATTRIBUTE_RECORD * n, &row);
@@ -84,14 +91,20 @@ fn put_record(numbers: &mut [u32], bytes: &mut [u8], n: usize, e: usize, a: usiz
 }
 
 // The records of the attributes of the element e, behind n records; how many there are then.
-fn put_list(lists: &[u16], e: usize, n: usize, numbers: &mut [u32], bytes: &mut [u8]) -> usize
-    requires { (1 ≤ e) × (e ≤ element_limit) × (n ≤ ATTCNT * (element_limit - 1)) }
-    ensures { PutsList lists.now e numbers.old bytes.old n numbers.new bytes.new result × (result ≤ n + ATTCNT) }
+fn put_list(
+    lists: &[u16],
+    e: ElementNo,
+    n: usize,
+    numbers: &mut [u32],
+    bytes: &mut [u8],
+) -> usize
+    requires { (1 ≤ e.0) × (e.0 ≤ element_limit) × (n ≤ ATTCNT * (element_limit - 1)) }
+    ensures { PutsList lists.now e.0 numbers.old bytes.old n numbers.new bytes.new result × (result ≤ n + ATTCNT) }
 {
-    let count = list_table::count(lists, ElementNo(e));
+    let count = list_table::count(lists, e);
     for a in 0..count {
-        let r = list_table::attribute(lists, ElementNo(e), a);
-        put_record(numbers, bytes, n + a, e, a + 1, r);
+        let r = list_table::attribute(lists, e, a);
+        put_record(numbers, bytes, n + a, e, AttributeNo(a + 1), r);
     }
     n + count
 }
@@ -103,7 +116,7 @@ fn put_lists(lists: &[u16], n: usize, numbers: &mut [u32], bytes: &mut [u8]) -> 
 {
     let mut m = 0;
     for k in 0..n {
-        m = put_list(lists, k + 1, m, numbers, bytes);
+        m = put_list(lists, ElementNo(k + 1), m, numbers, bytes);
     }
     m
 }

@@ -5,7 +5,7 @@ use Rattle.std.proofs.Math.Path.{refl, sym, ap}
 use Rattle.std.proofs.Common.{◌∙◌, subst, true≢false, inl, inr, length-append, length-set, get_or-set_same, get_or-set_other, eq-eqb, ne_eqb, le-leb}
 use Rattle.std.proofs.Math.Bool.{true, or-true}
 use mathlib.Core.List.{List, [], ◌∷◌, ◌++◌}
-use Rattle.std.proofs.Math.Decide.{ℕ_discrete}
+use Rattle.std.proofs.Math.Decide.{ℕ_discrete, dec_lt}
 use native.Mathlib.Omega.{arith}
 use Rattle.std.proofs.lemmas.Bool.{lt-leb}
 use Rattle.rules.specs.Bytes.{same_text, ATTCNT}
@@ -14,7 +14,7 @@ use Rattle.layout.specs.Sizes.{ATTRIBUTE, LIST}
 use Rattle.layout.specs.declared.AttributeNo.{AttributeNo}
 use Rattle.attribute_defaults.specs.DefaultOf.{default_is}
 use Rattle.list_table.specs.declared.Row.{Row}
-use Rattle.list_table.specs.Lists.{row_in, RowOf, is_named, number_of, ListAt, Copied}
+use Rattle.list_table.specs.Lists.{row_in, RowOf, is_named, number_of, ListAt, Added, Copied}
 
 pub get_d_past : (l : List ℕ) (i : ℕ) → length l ≤ i → 0 ≡ get_or l i 0
 get_d_past [] i h = refl
@@ -206,6 +206,11 @@ module _ (l : List ℕ) (i : ℕ) (r : Row) where
       get_or-set_other a4 (i + 4) j r.width 0 (omega (arith, h)) ∙ get_or-set_other a3 (i + 3) j r.default 0 (omega (arith, h)) ∙ get_or-set_other a2 (i + 2) j r.value 0 (omega (arith, h))
       ∙ get_or-set_other a1 (i + 1) j r.size 0 (omega (arith, h)) ∙ get_or-set_other l i j r.name 0 (omega (arith, h))
 
+  put_behind : (j : ℕ) → i + 5 ≤ j → get_or (put_row l i r) j 0 ≡ get_or l j 0
+  put_behind j h =
+      get_or-set_other a4 (i + 4) j r.width 0 (omega (arith, h)) ∙ get_or-set_other a3 (i + 3) j r.default 0 (omega (arith, h)) ∙ get_or-set_other a2 (i + 2) j r.value 0 (omega (arith, h))
+      ∙ get_or-set_other a1 (i + 1) j r.size 0 (omega (arith, h)) ∙ get_or-set_other l i j r.name 0 (omega (arith, h))
+
   -- The row, where a number before it is written too.
   put_row_lem : (n : ℕ) → 1 ≤ i → i + 4 < length l → row_in (set (put_row l i r) 0 n) i ≡ r
   put_row_lem n f h =
@@ -231,6 +236,20 @@ row_alike : (l m : List ℕ) (i j : ℕ) → ((q : ℕ) → q < ATTRIBUTE → ge
 row_alike l m i j f =
     let first : get_or m j 0 ≡ get_or l i 0 = ap (λ x. get_or m x 0) (omega arith) ∙ f 0 (omega arith) ∙ ap (λ x. get_or l x 0) (omega arith) in
     sym (row_is m j (sym first) (sym (f 1 (omega arith))) (sym (f 2 (omega arith))) (sym (f 3 (omega arith))) (sym (f 4 (omega arith))))
+
+-- A row is put as that of the attribute k, and the number of attributes.
+pub row_added : (l : List ℕ) (k : ℕ) (r : Row) → length l ≡ LIST → k < ATTCNT → Added k r l (set (put_row l (1 + ATTRIBUTE * k) r) 0 (k + 1))
+row_added l k r full room =
+    record {
+      long = length-set (put_row l (1 + ATTRIBUTE * k) r) 0 (k + 1) ∙ put_length l (1 + ATTRIBUTE * k) r;
+      counted = get_or-set_same (put_row l (1 + ATTRIBUTE * k) r) 0 (k + 1) 0 (omega (arith, put_length l (1 + ATTRIBUTE * k) r, full));
+      row = put_row_lem l (1 + ATTRIBUTE * k) r (k + 1) (omega arith) (omega (arith, full, room));
+      rest = λ j f o. get_or-set_other (put_row l (1 + ATTRIBUTE * k) r) 0 j (k + 1) 0 (omega (arith, f)) ∙ by_side j o;
+    }
+  where
+    by_side : (j : ℕ) → (j < 1 + ATTRIBUTE * k) ⊎ (1 + ATTRIBUTE * (k + 1) ≤ j) → get_or (put_row l (1 + ATTRIBUTE * k) r) j 0 ≡ get_or l j 0
+    by_side j (inl h) = put_before l (1 + ATTRIBUTE * k) r j h
+    by_side j (inr h) = put_behind l (1 + ATTRIBUTE * k) r j (omega (arith, h))
 
 -- A further attribute is put behind those of a list.
 pub list_put : (l : List ℕ) (k : ℕ) (r : Row) → length l ≡ LIST → k < ATTCNT → (long : ℕ) (s : List ℕ) (xs : List Attribute) (x : Attribute) → length xs ≡ k → ListAt long s l 0 xs → RowOf long s r x
@@ -286,10 +305,22 @@ module _ (list : List ℕ) (from : ℕ) (before : List ℕ) where
       by_last j g (no q) = get_or-set_other after (from + i) (from + j) x 0 (omega (arith, g, q)) ∙ w.there j (omega (arith, g, q))
 
 -- A list that is copied as far as its rows go.
-pub copied : (list : List ℕ) (from : ℕ) (before after : List ℕ) (i n : ℕ) → Copying list from before after i → i ≤ LIST → 1 + ATTRIBUTE * n ≤ i → ((long : ℕ) (s : List ℕ) (xs : List Attribute) → ListAt long s list 0 xs → n ≡ length xs)
+pub copied : (list : List ℕ) (from : ℕ) (before after : List ℕ) (i n : ℕ) → Copying list from before after i → i ≤ LIST → i ≡ 1 + ATTRIBUTE * n → ((long : ℕ) (s : List ℕ) (xs : List Attribute) → ListAt long s list 0 xs → n ≡ length xs)
     → Copied list from before after
-copied list from before after i n w room end counts = record { long = w.long; there = there; others = others }
+copied list from before after i n w room end counts =
+    record { long = w.long; outside = outside; inside = λ j h. by_copied j h (dec_lt j i); behind = behind; there = there; others = others }
   where
+    outside : (j : ℕ) → (j < from) ⊎ (from + LIST ≤ j) → get_or after j 0 ≡ get_or before j 0
+    outside j (inl h) = w.below j h
+    outside j (inr h) = w.above j (omega (arith, h, room))
+
+    by_copied : (j : ℕ) → j < LIST → Dec (j < i) → (get_or after (from + j) 0 ≡ get_or list j 0) ⊎ (get_or after (from + j) 0 ≡ get_or before (from + j) 0)
+    by_copied j h (yes l) = inl (w.there j l)
+    by_copied j h (no l) = inr (w.above (from + j) (omega (arith, l)))
+
+    behind : (long : ℕ) (s : List ℕ) (xs : List Attribute) → ListAt long s list 0 xs → (j : ℕ) → from + 1 + ATTRIBUTE * length xs ≤ j → get_or after j 0 ≡ get_or before j 0
+    behind long s xs a j h = w.above j (omega (arith, h, end, counts long s xs a))
+
     there : (long : ℕ) (s : List ℕ) (xs : List Attribute) → ListAt long s list 0 xs → ListAt long s after from xs
     there long s xs a =
         let m = counts long s xs a in

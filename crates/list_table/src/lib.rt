@@ -12,9 +12,12 @@ ghost use Rattle.std.specs.Prelude.{eqb, IfSome};
 ghost use Rattle.rules.specs.Bytes.{ATTCNT, element_limit};
 ghost use Rattle.rules.specs.Attributes.{Attribute, attribute_of, needs_tag};
 ghost use Rattle.layout.specs.Sizes.{ATTRIBUTE, LIST, LISTS};
-ghost use Rattle.list_table.specs.Lists.{row_in, Short, RowOf, is_named, number_of, ListAt, Copied};
+ghost use Rattle.list_table.specs.Lists.{row_in, Short, RowOf, is_named, number_of, ListAt, Added, Copied};
 
 use layout::{ATTCNT, ATTRIBUTE, AttributeNo, ElementNo, LIST};
+
+// A list by itself is the table of one element, which is this one.
+pub const ONLY: ElementNo = ElementNo(1);
 
 // What is kept of an attribute.
 // Kept: the numbers of the declared value and of the default, and no enums (fixed: the table holds numbers of
@@ -61,7 +64,8 @@ fn row_at(lists: &[u16], i: usize) -> Row
     }
 }
 
-// How many attributes the element e has, at most ATTCNT; data, for which e is 0, has none.
+// How many attributes the element e has; data, for which e is 0, has none. Where the table has no list of the
+// element the answer is not decided, but that it is at most ATTCNT.
 pub fn count(lists: &[u16], e: ElementNo) -> usize
     requires { e.0 ≤ element_limit }
     ensures { ((long : ℕ) (s : List ℕ) (xs : List Attribute) → 1 ≤ e.0 → ListAt long s lists.now (LIST * (e.0 - 1)) xs → result ≡ length xs) × (result ≤ ATTCNT) × (e.0 ≡ 0 → result ≡ 0) }
@@ -84,10 +88,13 @@ pub fn attribute(lists: &[u16], e: ElementNo, k: usize) -> Row
     row_at(lists, LIST * (e.0 - 1) + 1 + ATTRIBUTE * k)
 }
 
-// The attribute k of a list by itself, from 0, which had k before.
+// The attribute k of a list by itself, from 0, which had k before. Whatever stood there: its row is put, it is
+// the last, and nothing else changes.
 pub fn put_attribute(list: &mut [u16; LIST], k: usize, r: Row)
     requires { (k < ATTCNT) × Short r }
-    ensures { (long : ℕ) (s : List ℕ) (xs : List Attribute) (x : Attribute) → length xs ≡ k → ListAt long s list.old 0 xs → RowOf long s r x → ListAt long s list.new 0 (xs ++ x ∷ []) }
+    ensures puts_row { Added k r list.old list.new }
+    ensures by_index { (long : ℕ) (s : List ℕ) (xs : List Attribute) (x : Attribute) → length xs ≡ k →
+        ListAt long s list.old 0 xs → RowOf long s r x → ListAt long s list.new 0 (xs ++ x ∷ []) }
 {
     let i = 1 + ATTRIBUTE * k;
     list[i] = r.name as u16;
@@ -98,20 +105,22 @@ pub fn put_attribute(list: &mut [u16; LIST], k: usize, r: Row)
     list[0] = (k + 1) as u16;
 }
 
-// A list by itself as that of the element k + 1: its rows are copied, and nothing else changes.
+// A list by itself as that of the element k + 1: its rows are copied, and nothing else changes. Where it is no
+// list, what the table has for that element is not decided, but that each number there is as it was or the one
+// of `list`.
 pub fn put_list(lists: &mut [u16], k: usize, list: &[u16; LIST])
     requires { (k < element_limit) × (length lists.old ≡ LISTS) }
     ensures { Copied list.now (LIST * k) lists.old lists.new }
 {
     let from = LIST * k;
-    let one = ElementNo(1);
-    let end = 1 + ATTRIBUTE * count(list, one);
+    let end = 1 + ATTRIBUTE * count(list, ONLY);
     for i in 0..end {
         lists[from + i] = list[i];
     }
 }
 
-// Whether one of the element's attributes is required: its start tag is never inferred.
+// Whether one of the element's attributes is required: its start tag is never inferred. Where the table has no
+// list of the element the answer is not decided.
 pub fn needs_tag(lists: &[u16], e: ElementNo) -> bool
     requires { (1 ≤ e.0) × (e.0 ≤ element_limit) }
     ensures { (long : ℕ) (s : List ℕ) (xs : List Attribute) → ListAt long s lists.now (LIST * (e.0 - 1)) xs → result ≡ needs_tag xs }
@@ -138,7 +147,8 @@ fn is_named(s: &[u8], r: Row, t: &[u8], at: usize, size: usize) -> bool
     words::same_within(s, r.name, t, at, size)
 }
 
-// The attribute of the element e that has the name of this size at `at` in the text t.
+// The attribute of the element e that has the name of this size at `at` in the text t. Where the table has no
+// list of the element the answer is not decided, but that it is none or one of the first ATTCNT.
 pub fn find(
     s: &[u8],
     lists: &[u16],

@@ -70,11 +70,11 @@ impl<'a> Members<'a> {
     }
 
     // The place that the member h requires at its start, or 0.
-    pub fn required_of(self, h: usize) -> usize
+    pub fn required_of(self, h: usize) -> Place
         requires { h ≤ 255 }
-        ensures { (result ≡ due_at self.entry.table.now self.entry.e.0 h) × (result ≤ 255) }
+        ensures { (result.0 ≡ due_at self.entry.table.now self.entry.e.0 h) × (result.0 ≤ 255) }
     {
-        number(self.table, self.e.0 * MEMBER + 2 * POSITIONS + h)
+        Place(number(self.table, self.e.0 * MEMBER + 2 * POSITIONS + h))
     }
 
     // What is kept of the group g: the number of its first member; how many members cannot be nothing, which

@@ -70,9 +70,9 @@ pub fn place_shown(parent: ElementNo, place: Place) -> Place
 // The marks of an element whose model has an "&", where the row has these and the groups around the place
 // answer m (`take` of and_groups): the row's, if no group lacks a member; else the content is not complete,
 // and m is required.
-fn weighed(m: Option<Place>, complete: bool, kept: usize) -> Marks
+fn weighed(m: Option<Place>, complete: bool, kept: Place) -> Marks
     requires { IfSome m (λ (x : Place). x.0 ≤ GRPGTCNT) }
-    ensures { Weighs (answer_of m) complete kept result.complete result.required.0 }
+    ensures { Weighs (answer_of m) complete kept.0 result.complete result.required.0 }
 {
     match m {
         Some(due) => Marks {
@@ -86,12 +86,12 @@ fn weighed(m: Option<Place>, complete: bool, kept: usize) -> Marks
     }
 }
 
-// The place that is kept higher by `RAISE`, or 0. Of a number that is not kept so the answer is not decided,
-// but that it is at most 96.
-fn lowered(kept: usize) -> Place
-    ensures { (result.0 ≤ GRPGTCNT) × (GRPGTCNT < kept → kept ≤ RAISE + GRPGTCNT → result.0 ≡ kept - RAISE) }
+// The place that is kept higher by `RAISE`, or 0. Of one that is not kept so the answer is not decided, but that
+// it is at most 96.
+fn lowered(kept: Place) -> Place
+    ensures { (result.0 ≤ GRPGTCNT) × (GRPGTCNT < kept.0 → kept.0 ≤ RAISE + GRPGTCNT → result.0 ≡ kept.0 - RAISE) }
 {
-    let n = kept % RAISE;
+    let n = kept.0 % RAISE;
     if GRPGTCNT < n {
         return Place(0);
     }
@@ -155,8 +155,8 @@ impl OpenElements {
         let u = self.place;
         let kept = type_tables::kept(t.rows, e, place);
         let mut complete = type_tables::complete(t.rows, e, place);
-        let mut required = Place(kept);
-        if GRPGTCNT < kept {
+        let mut required = kept;
+        if GRPGTCNT < kept.0 {
             let m = and_groups::take(t.members, begun, n, e, u, place);
             let marks = weighed(m, complete, kept);
             complete = marks.complete;

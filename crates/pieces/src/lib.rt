@@ -103,7 +103,8 @@ fn held(
 
 // What stands at `at`, where the current element, of which so many are around it as `level` says, is e
 // after the place u. Where it is a start tag, `marks` has the attributes that it gives; else, and where it
-// is refused, what that holds is not decided.
+// is refused, what that holds is not decided. What `given` holds afterwards is never decided: it is room for
+// what a tag gives.
 pub fn found_at(
     t: Type,
     classes: &[u8; 256],

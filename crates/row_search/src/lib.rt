@@ -78,15 +78,15 @@ pub fn largest_among(
     level: usize,
     e: ElementNo,
     u: Place,
-    p: usize,
+    p: Place,
 ) -> Place
     requires { (level ≤ TAGLVL) × (e.0 ≤ element_limit) × (u.0 ≤ GRPGTCNT) }
-    ensures { LargestRaised (BothSay rows.now members.now begun.now level e.0 u.0) places.now e.0 p result.0 }
+    ensures { LargestRaised (BothSay rows.now members.now begun.now level e.0 u.0) places.now e.0 p.0 result.0 }
 {
-    if p < RAISE {
+    if p.0 < RAISE {
         return Place(0);
     }
-    let q = Place(p - RAISE);
+    let q = Place(p.0 - RAISE);
     if GRPGTCNT < q.0 {
         return Place(0);
     }

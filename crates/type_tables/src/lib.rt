@@ -15,8 +15,8 @@
 // are 1 where the start may be omitted, the end may be omitted, and the content is a model.
 //
 // Whatever the tables hold, each function ends and stays within them. Where they are no type's, what
-// `fitting`, `startable` and `inferable` answer is not decided, but that a place is at most 96 and an element
-// at most 64.
+// `fitting`, `fitting_first`, `takes_data`, `startable` and `inferable` answer is not decided, but that a place
+// is at most 96 and an element at most 64.
 //
 // Kept: `Place(0)` and `ElementNo(0)` for none: (plainer) the tables have 0 there, and so have the rules
 // (`fits` of their decisions, `required_place`, `inferable`), which the contracts equate with the answers as
@@ -58,12 +58,12 @@ pub fn complete(rows: &[u8; ROWS], e: ElementNo, u: Place) -> bool
 }
 
 // What the row of the element e after the place u has for the required place, or 0; `RAISE` more where the
-// model has an "&" and u is a place.
-pub fn kept(rows: &[u8; ROWS], e: ElementNo, u: Place) -> usize
+// model has an "&" and u is a place. Such a number is no place yet, but is kept where places are.
+pub fn kept(rows: &[u8; ROWS], e: ElementNo, u: Place) -> Place
     requires { (e.0 ≤ element_limit) × (u.0 ≤ GRPGTCNT) }
-    ensures { (result ≡ get_or rows.now (row_at e.0 u.0 + REQUIRED) 0) × (result ≤ 255) }
+    ensures { (result.0 ≡ get_or rows.now (row_at e.0 u.0 + REQUIRED) 0) × (result.0 ≤ 255) }
 {
-    numbers::wide(rows[row_search::row(e, u) + REQUIRED])
+    Place(numbers::wide(rows[row_search::row(e, u) + REQUIRED]))
 }
 
 // The required place that the row of the element e after the place u has, or 0.
@@ -109,7 +109,9 @@ pub fn has_model(facts: &[u8; FACTS], e: ElementNo) -> bool
     facts[e.0 * FACT + HAS_MODEL] == 1
 }
 
-// The place of the name x that may come next in the element e after the place u at the level, or 0.
+// The place of the name x that may come next in the element e after the place u at the level, or 0. Of a name
+// that is not declared, or where the bits are not those of the places taken in e, it is not decided, but that it
+// is at most 96.
 pub fn fitting(
     t: TypeTables,
     begun: &[u32; BEGUN],
@@ -126,14 +128,15 @@ pub fn fitting(
     ensures result_bound { result.0 ≤ GRPGTCNT }
 {
     let name = x.0;
-    let p = numbers::wide(t.facts[e.0 * FACT + name]);
-    if GRPGTCNT < p {
+    let p = Place(numbers::wide(t.facts[e.0 * FACT + name]));
+    if GRPGTCNT < p.0 {
         return row_search::largest_among(t.rows, t.places, t.members, begun, level, e, u, p);
     }
-    row_search::largest(t.rows, t.places, e, u, Place(p))
+    row_search::largest(t.rows, t.places, e, u, p)
 }
 
-// Whether data may come next in the element e after the place u at the level.
+// Whether data may come next in the element e after the place u at the level. Where the tables are no type's, or
+// the bits are not those of the places taken in e, it is not decided.
 pub fn takes_data(t: TypeTables, begun: &[u32; BEGUN], level: usize, e: ElementNo, u: Place) -> bool
     requires { (level ≤ TAGLVL) × (e.0 ≤ element_limit) × (u.0 ≤ GRPGTCNT) }
     ensures { (s : List ℕ) (es : List Element) → Tables s es t.entry.rows.now t.entry.places.now
@@ -141,33 +144,34 @@ pub fn takes_data(t: TypeTables, begun: &[u32; BEGUN], level: usize, e: ElementN
         (o : rules.Open) → Entered es t.entry.members.now begun.now level e.0 u.0 o →
         result ≡ leb 1 ((decided s es).fits e.0 o.taken decisions.pcdata) }
 {
-    let p = numbers::wide(t.facts[e.0 * FACT]);
-    if GRPGTCNT < p {
+    let p = Place(numbers::wide(t.facts[e.0 * FACT]));
+    if GRPGTCNT < p.0 {
         let q = row_search::largest_among(t.rows, t.places, t.members, begun, level, e, u, p);
         return q.0 != 0;
     }
-    let q = row_search::largest(t.rows, t.places, e, u, Place(p));
+    let q = row_search::largest(t.rows, t.places, e, u, p);
     q.0 != 0
 }
 
-// The place that a number of the facts is, higher by `RAISE` where the model has an "&"; 0 where it is none.
-fn lowered(p: usize) -> Place
-    ensures { Lowered p result.0 }
+// The place that one of the facts is, which is higher by `RAISE` where the model has an "&"; 0 where it is none.
+fn lowered(p: Place) -> Place
+    ensures { Lowered p.0 result.0 }
 {
-    if p <= GRPGTCNT {
-        return Place(p);
+    if p.0 <= GRPGTCNT {
+        return p;
     }
-    if p < RAISE {
+    if p.0 < RAISE {
         return Place(0);
     }
-    if GRPGTCNT < p - RAISE {
+    if GRPGTCNT < p.0 - RAISE {
         return Place(0);
     }
-    Place(p - RAISE)
+    Place(p.0 - RAISE)
 }
 
 // The place of the name x that may come next at the start of the element e, or 0. Nothing has begun there, so
-// the row decides.
+// the row decides. Where e or the name is not declared, or the tables are no type's, it is not decided, but that
+// it is at most 96.
 pub fn fitting_first(t: TypeTables, e: ElementNo, x: ElementNo) -> Place
     requires { (e.0 ≤ element_limit) × (x.0 ≤ element_limit) }
     ensures by_index { (s : List ℕ) (es : List Element) (M : List ℕ) →
@@ -176,12 +180,13 @@ pub fn fitting_first(t: TypeTables, e: ElementNo, x: ElementNo) -> Place
     ensures result_bound { result.0 ≤ GRPGTCNT }
 {
     let name = x.0;
-    let p = numbers::wide(t.facts[e.0 * FACT + name]);
+    let p = Place(numbers::wide(t.facts[e.0 * FACT + name]));
     let none = Place(0);
     row_search::largest(t.rows, t.places, e, none, lowered(p))
 }
 
-// The element whose start is to be inferred in the element e where the place p is required, or 0.
+// The element whose start is to be inferred in the element e where the place p is required, or 0. Where another
+// place is required, or none, it is not decided, but that it is at most 64.
 pub fn startable(t: TypeTables, e: ElementNo, p: Place) -> ElementNo
     requires { e.0 ≤ element_limit }
     ensures by_index { (s : List ℕ) (es : List Element) (rows M : List ℕ) →

@@ -82,5 +82,5 @@ loop-i-preserved c = let a = c.args in
       omega (arith, w.1),
       omega (arith, i.5, w.4),
       reads_turn a.long a.s.now a.from _ _ _ _ _ r g c.byte-b.ensures c.closes.ensures c.if-closes.false (tested letter c.byte-b.ensures c.is_letter.ensures c.if-not-is_letter.false) _ _ _ _ _ w.1
-          (c.in_ok-d.ensures.meets_definition r.xs r.counted r.listed r.parts) c.put_attribute.ensures,
+          (c.in_ok-d.ensures.meets_definition r.xs r.counted r.listed r.parts) c.put_attribute.ensures.by_index,
     )

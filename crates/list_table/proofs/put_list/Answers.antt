@@ -28,5 +28,5 @@ shape_of-lists c = c.loop-i.invariant.3.long
 
 pub returns : goal.returns
 returns c = let a = c.args in
-    copied a.list.now (LIST * a.k) a.lists.now c.loop-i.lists c.loop-i.i c.count.result c.loop-i.invariant.3 (omega (arith, c.loop-i.invariant.0, c.loop-i.auto.i-end)) (omega (arith, c.loop-i-test.false))
+    copied a.list.now (LIST * a.k) a.lists.now c.loop-i.lists c.loop-i.i c.count.result c.loop-i.invariant.3 (omega (arith, c.loop-i.invariant.0, c.loop-i.auto.i-end)) (omega (arith, c.loop-i.auto.i-end, c.loop-i-test.false))
     (λ o s xs l. c.count.ensures.0 o s xs (omega arith) l)

@@ -8,3 +8,6 @@ use Rattle.pieces.proofs.held.Goals as goal
 pub returns-then-is_empty : goal.returns-then-is_empty
 returns-then-is_empty c = λ xs ws l n k.
     attributed_none _ _ _ _ _ _ _ _ _ (omega arith) (eqb-true _ _ (sym c.if-is_empty.ensures)) xs ws l k
+
+pub returns : goal.returns
+returns c = c.check.ensures.by_list
