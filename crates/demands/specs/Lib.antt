@@ -8,4 +8,5 @@ pub mod RecordEnds
 pub mod Meets
 pub mod Kept
 pub mod Models
+pub mod Editions
 pub mod Exists

@@ -2,6 +2,7 @@
 use Rattle.std.specs.Prelude.{ℕ, ◌-◌, ◌*◌, ◌<◌, ◌≤◌, ◌≡◌, ◌⊎◌, ◌↔◌, length}
 use mathlib.Core.List.{List, ◌∷◌, ◌++◌, Memᴰ}
 use Rattle.rules.specs.Settings.{Settings}
+use Rattle.rules.specs.Bytes.{byte_at, RE}
 use Rattle.rules.specs.Lent.{Lent, standing, room, filled_with, zeroed}
 use Rattle.rules.specs.Reading.{got}
 use Rattle.rules.specs.Walk.{Group, Guarded, Begins}
@@ -97,6 +98,10 @@ pub record ReaderAcceptance (l : Lent) (c : Settings) (s d before : List ℕ) (a
   pub fits : event_width * length events ≤ room l before
   pub answer : a ≡ acceptance (length events)
   pub written : after ≡ filled_with (standing l (event_numbers events)) before
+
+-- No byte of the document is 13, a record end.
+abbrev pub NoRecordEnd : List ℕ → Type 0
+NoRecordEnd d = (i : ℕ) → i < length d → byte_at d i ≡ RE → ⊥
 
 -- The reader "judges the type afresh", and as the judge does, whose answer is a: where the type is at fault, b is the same answer.
 pub record SameVerdict (a b : Answer) : Type 0 where
