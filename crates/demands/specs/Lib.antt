@@ -9,4 +9,5 @@ pub mod Meets
 pub mod Kept
 pub mod Models
 pub mod Editions
+pub mod Values
 pub mod Exists
