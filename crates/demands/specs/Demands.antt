@@ -2,7 +2,7 @@
 -- the rules of crates/rules. `JudgeKeeps` and `ReaderKeeps` say what the demands ask of an answer and of what the lent buffer holds
 -- after; the theorems on the calls, further below, say that each call of the source gives just that. That it ends and stays in its buffers is checked with its
 -- contract. Meets says the same of the routines of both calls for C.
-use Rattle.std.specs.Prelude.{ℕ, Result, ◌-◌, ◌*◌, ◌<◌, ◌≤◌, ◌≡◌, true, false, ◌↔◌, List, [], ◌∷◌, ◌++◌, length}
+use Rattle.std.specs.Prelude.{ℕ, Result, ◌-◌, ◌*◌, ◌<◌, ◌≤◌, ◌≡◌, true, false, ◌↔◌, List, [], ◌∷◌, ◌++◌, length, take, drop}
 use Rattle.std.proofs.Common.{sym, ◌∙◌, ap}
 use contract.Lifetimes.{Lfts}
 use Rattle.std.specs.Borrow.{Bor}
@@ -17,11 +17,10 @@ use Rattle.rules.specs.Ambiguity.{Ambiguous, PairAtFault}
 use Rattle.rules.specs.TypeFile.{Place, Element, type_file}
 use Rattle.rules.specs.Judge.{same_place, Answer, refusal, first_repeated, Legible, Refuses, Accepts, Judged, record_width}
 use Rattle.rules.specs.Events.{Event, event_width}
-use Rattle.rules.specs.Attributes.{needs_tag}
 use Rattle.rules.specs.Elements.{element_at}
 use Rattle.rules.specs.Given.{attributes_before, with_attributes, value_bytes}
 use Rattle.rules.specs.Decisions.{Decisions}
-use Rattle.rules.specs.Settling.{Open, State, nothing_open, is_complete, inferable}
+use Rattle.rules.specs.Settling.{State, nothing_open, is_complete}
 use Rattle.rules.specs.Acts.{Acts, Deeds, IsStart, Took, Passes, Few}
 use Rattle.rules.specs.Records.{Line, records_settled}
 use Rattle.rules.specs.Reader.{BothLegible, Reads, RefusesBoth, ReadAs}
@@ -32,10 +31,11 @@ use Rattle.acts.specs.Readings.{passes_acts, document_acts}
 use Rattle.acts.specs.Deeds.{acts_deeds}
 use Rattle.place_laws.specs.Stood.{stood}
 use Rattle.place_laws.specs.Pinned.{deeds_one}
-use Rattle.demands.specs.Words.{Refusal, Acceptance, ModelOf, SomeRepeated, SomeAmbiguous, NamesFirst, NamesDecide, ReaderRefusal, ReaderAcceptance, SameVerdict}
+use Rattle.demands.specs.Words.{Refusal, Acceptance, ModelOf, SomeRepeated, SomeAmbiguous, NamesFirst, NamesDecide, ReaderRefusal, ReaderAcceptance, Quoted, NoneRequired, SameVerdict}
 use Rattle.answer_laws.specs.Reader.{given_one, reading_one}
 use Rattle.demands.specs.Exists.{judged_some, read_some}
 use Rattle.demands.specs.Kept as kept
+use Rattle.demands.specs.Values as values
 use Rattle.demands.specs.Batches.{BatchKeeps, batch_keeps}
 use Rattle.stretches.specs.Fit.{batch_of}
 use Rattle.inputs.specs.Checks.{settings_of}
@@ -307,10 +307,36 @@ events_did c s d es ev x =
     let over = a.over in
     (over.last, acts_deeds s es x.decisions Deeds.nothing over.acts, over.nothing, over.complete, ap (λ (noted : List Event). with_attributes c.name_length s es d (records_settled c d noted)) over.events ∙ sym a.given)
 
--- Paper 02, request one: "An element with a required attribute never has its start inferred": whatever start is inferred in an open element, by whatever decisions,
--- is of an element without one.
-pub required_never_inferred : (s : List ℕ) (es : List Element) (D : Decisions) (o : Open) → 1 ≤ inferable s es D o → needs_tag (element_at es (inferable s es D o - 1)).attributes ≡ false
-required_never_inferred = kept.required_never_inferred
+-- Paper 02, request one: "An element with a required attribute never has its start inferred": of each event e
+-- of a document that is read, if it is of kind 2, its element is declared, and no attribute of it is
+-- required.
+pub required_never_inferred : (c : Settings) (s d : List ℕ) (es : List Element) (ev : List Event)
+    (x : Reads c s d es (got ev)) (before : List Event) (e : Event) (after : List Event)
+    → ev ≡ before ++ e ∷ after → e.kind ≡ 2
+    → (1 ≤ e.number) × (e.number ≤ length es) × NoneRequired (element_at es (e.number - 1))
+required_never_inferred = values.none_required
+
+-- "Written values are literals in either quote": of each event e of a document that is read, if it is of kind
+-- 7 its value is a part of the document, and if it is of kind 8 a part of the type file, which stands between
+-- two quotes of one kind and has none of these in it (`Quoted`). So it lies in its text, and its bytes
+-- (`value_bytes`) are those of that part.
+pub written_value : (c : Settings) (s d : List ℕ) (es : List Element) (ev : List Event)
+    (x : Reads c s d es (got ev)) (before : List Event) (e : Event) (after : List Event)
+    → ev ≡ before ++ e ∷ after → e.kind ≡ 7
+    → Quoted d e.offset e.size
+    × (value_bytes s d true (record { at = e.offset; size = e.size }) ≡ take e.size (drop e.offset d))
+written_value c s d es ev x before e after parts k =
+    let q = values.written_quoted c s d es ev x before e after parts k in
+    (q, values.quoted_bytes s d true e.offset e.size q)
+
+pub defaulted_value : (c : Settings) (s d : List ℕ) (es : List Element) (ev : List Event)
+    (x : Reads c s d es (got ev)) (before : List Event) (e : Event) (after : List Event)
+    → ev ≡ before ++ e ∷ after → e.kind ≡ 8
+    → Quoted s e.offset e.size
+    × (value_bytes s d false (record { at = e.offset; size = e.size }) ≡ take e.size (drop e.offset s))
+defaulted_value c s d es ev x before e after parts k =
+    let q = values.default_stands c s d es ev x before e after parts k in
+    (q, values.quoted_bytes s d false e.offset e.size q)
 
 -- "The value without quotes, handed to the caller, is a part of the document if written and a part of the type file if defaulted" (`value_bytes` of the rules): what
 -- `value` returns for the offset and length of an attribute event, which are those of the literal without its quotes (`attribute_event` of the rules).

@@ -1,7 +1,6 @@
 -- The demands proved, one theorem each: Demands has them together, to be read first.
-use Rattle.std.specs.Prelude.{ℕ, ◌-◌, ◌*◌, ◌<◌, ◌≤◌, ◌≡◌, refl, false, ◌||◌, ◌↔◌, List, ◌++◌, length, eqb}
-use Rattle.std.proofs.Common.{sym, ◌∙◌, ap, ⊎_elim, arith, le-leb}
-use Rattle.std.proofs.lemmas.Bool.{not-true}
+use Rattle.std.specs.Prelude.{ℕ, ◌*◌, ◌<◌, ◌≤◌, ◌≡◌, refl, false, ◌||◌, ◌↔◌, List, ◌++◌, length, eqb}
+use Rattle.std.proofs.Common.{sym, ◌∙◌, ap, ⊎_elim, arith}
 use Rattle.rules.specs.Settings.{Settings, is_offered}
 use Rattle.rules.specs.Bytes.{byte_at, AND}
 use Rattle.rules.specs.Lent.{Lent, room}
@@ -11,11 +10,9 @@ use Rattle.rules.specs.Ambiguity.{Ambiguous, PairAtFault}
 use Rattle.rules.specs.TypeFile.{Place, Element, type_file}
 use Rattle.rules.specs.Judge.{same_place, Answer, refusal, first_repeated, Legible, Refuses, no_room, Accepts, Judged, refuses, accepts, record_width}
 use Rattle.rules.specs.Events.{Event, event_width}
-use Rattle.rules.specs.Attributes.{needs_tag}
-use Rattle.rules.specs.Elements.{element_at}
 use Rattle.rules.specs.Given.{attributes_before, with_attributes}
 use Rattle.rules.specs.Decisions.{Decisions, Means}
-use Rattle.rules.specs.Settling.{Open, State, inferable}
+use Rattle.rules.specs.Settling.{State}
 use Rattle.rules.specs.Acts.{Deeds, IsStart, Took}
 use Rattle.rules.specs.Records.{is_end, records_settled}
 use Rattle.rules.specs.Reader.{BothLegible, Reads, RefusesBoth, ReadAs}
@@ -23,13 +20,11 @@ use Rattle.demands.specs.Words.{Refusal, Acceptance, ModelOf, SomeRepeated, Some
 use Rattle.answer_laws.specs.Judge.{settled_one, settled_refuses, settled_accepts, settled_fair, settled_faulty, refuses_named, refuses_some, settled_twenty_four, settled_twenty_five, settled_repeated, settled_nine, settled_nineteen, first_model, model_exactly, not_ambiguous, names_alone, settled_length}
 use Rattle.demands.specs.Models.{pair_in, names_first, some_repeated, repeated_some, unrepeated_none, none_repeated}
 use Rattle.document_laws.specs.OneReading.{same_elements}
-use Rattle.document_laws.specs.Chain.{inferable_may}
-use Rattle.basic_laws.specs.Truth.{and_right}
 use Rattle.type_laws.specs.Members.{type_file_ampersand}
 use Rattle.record_due.specs.Due.{to_other}
 use Rattle.record_due.specs.Among.{Among, cut_run, stands, among}
 use Rattle.place_laws.specs.Taken.{deeds_took}
-use Rattle.place_laws.specs.Stood.{OfAttribute, Stood, added, there}
+use Rattle.place_laws.specs.Stood.{OfAttribute, Stood, added, there, of_attribute}
 use Rattle.answer_laws.specs.Reader.{given_one, both_says, both_some, given_twenty_four, given_twenty_five, given_repeated, given_nine, given_nineteen, type_refused, given_refuses, given_accepts, given_faulty, given_fair, given_length}
 
 -- The type judge
@@ -221,7 +216,9 @@ module _ (l m : Lent) (c : Settings) (s d before other : List ℕ) (a b : Answer
 -- Of each event of a document: a start took its place behind all that the events before did, and the events of its own attributes stand between; all others have no place.
 pub told_among : (c : Settings) (s : List ℕ) (es : List Element) {given : Settings} → Accepts given s es → (D : Decisions) → Means s es D → (d : List ℕ) {y : State} → Deeds s es D y → (before : List Event) (e : Event) → Stood c.name_length s es d (records_settled c d y.events) before e
     → (IsStart e → (z : State) × Deeds s es D z × (with_attributes c.name_length s es d (records_settled c d z.events) ++ attributes_before c.name_length s es d e ≡ before) × Took s es z.current e) × ((IsStart e → ⊥) → e.place ≡ 0)
-told_among c s es accepted D means d deeds before e (added o) = (λ k. absurd (no_start e o k), λ k. o.place)
+told_among c s es accepted D means d deeds before e (added x m) =
+    let o = of_attribute c.name_length s es d x e m in
+    (λ k. absurd (no_start e o k), λ k. o.place)
   where
     no_start : (e : Event) → OfAttribute e → IsStart e → ⊥
     no_start e o k = ⊎_elim (λ i. ⊎_elim (λ j. omega (arith, i, j)) (λ j. omega (arith, i, j)) k) (λ i. ⊎_elim (λ j. omega (arith, i, j)) (λ j. omega (arith, i, j)) k) o.kind
@@ -241,7 +238,3 @@ told_among c s es accepted D means d {y} deeds before e (there first last i j) =
               (z, did, ap (λ (v : List Event). with_attributes c.name_length s es d v ++ attributes_before c.name_length s es d e) shows ∙ sym j, t),
           other,
         )
-
--- Paper 02, request one: no start of an element with a required attribute is inferred.
-pub required_never_inferred : (s : List ℕ) (es : List Element) (D : Decisions) (o : Open) → 1 ≤ inferable s es D o → needs_tag (element_at es (inferable s es D o - 1)).attributes ≡ false
-required_never_inferred s es D o some = not-true _ (and_right (eqb (element_at es (inferable s es D o - 1)).start 1) _ (inferable_may s es D o (le-leb 1 (inferable s es D o) some)).start)

@@ -1,4 +1,5 @@
--- The demands of paper 01 on the calls of the source: read Demands first, then Words; OpenElements for the open elements at every moment; RecordEnds for record ends.
+-- The demands of paper 01 on the calls of the source: read Demands first, then Words; OpenElements for the
+-- open elements before and after each step; RecordEnds for record ends.
 pub mod Batches
 pub mod Demands
 pub mod Words
@@ -8,4 +9,6 @@ pub mod RecordEnds
 pub mod Meets
 pub mod Kept
 pub mod Models
+pub mod Editions
+pub mod Values
 pub mod Exists

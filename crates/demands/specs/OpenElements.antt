@@ -1,6 +1,29 @@
--- The open elements of the program, at every step of settling and closing: demand 1, "keeps between 0 and 24 elements open", and paper 02, request four,
--- "Store the mark, and the required place if there is one, with each open element. At every moment both must equal what 01's definition says of
--- the places taken." The hypotheses are the contracts as they stand in the source, as on the page of the calls: `Asked` is what a function requires.
+-- The open elements of the program, before and after every step of settling and closing: demand 1, "keeps
+-- between 0 and 24 elements open", and paper 02, request four, "Store the mark, and the required place if
+-- there is one, with each open element. At every moment both must equal what 01's definition says of the
+-- places taken." The hypotheses are the contracts as they stand in the source, as on the page of the calls:
+-- `Asked` is what a function requires.
+--
+-- What is proved here, and what is known by reading the source. A contract says what a function is handed and
+-- what it returns. No contract can speak of a moment within a call, so no theorem here does: each is of one
+-- method of the open elements, or of one step within a token, before it and after it. That there are no
+-- moments between these is known by reading the source, and is not proved:
+-- * The open elements are changed by the methods `new`, `take`, `start`, `start_required`, `end` and
+--   `infer_end` of open_elements alone, and so is what has begun of "&" groups (`begun`), by `take`. No other
+--   crate makes a value of this type or sets a field of one. What the program holds while a method computes
+--   is not spoken of.
+-- * They stand in one variable from token to token, that of `events_of` of document_events, which begins with
+--   `new`, and hands it by value to what it calls.
+-- * For a start tag or a run of data `events_of` calls, in this order: `is_over` of ways; `ends` of
+--   inferring, which calls `infer_end` once for each end; for each start that is inferred `next_start` of
+--   inferring and then `infer_start` of inferring, which calls `start_required`; `placed` of placing, which
+--   calls `take`; and, where `opens` of ways says so, `start`.
+-- * For an end tag it calls `end_tag` of closing, which calls `end_until` of left_out_ends, and this
+--   `infer_end` once for each end that is left out; then `end`. At the document's end it calls `finish` of
+--   closing, which calls `end_until` likewise.
+-- * `is_over` and `next_start` are handed the open elements and return none. What else `events_of` calls is
+--   not handed them: `found_at` of pieces, which gets how many are open, the current element and the place
+--   taken last in it; `starts_of` of ways; and the functions of record_ends and attribute_events.
 use Rattle.std.specs.Prelude.{ℕ, suc, Result, Ok, Err, ◌≤◌, ◌<◌, ◌≡◌, refl, Bool, true, false, ◌&&◌, List, [], ◌∷◌, ◌++◌, length, eqb}
 use Rattle.std.proofs.Common.{sym, ◌∙◌, ap, ap₂, subst, arith}
 use contract.Lifetimes.{Lfts}

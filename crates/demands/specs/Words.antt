@@ -1,11 +1,13 @@
 -- The words of the demands: what a refusal and an acceptance are, and demand 3's words about models.
-use Rattle.std.specs.Prelude.{ℕ, ◌-◌, ◌*◌, ◌<◌, ◌≤◌, ◌≡◌, ◌⊎◌, ◌↔◌, length}
+use Rattle.std.specs.Prelude.{ℕ, ◌+◌, ◌-◌, ◌*◌, ◌<◌, ◌≤◌, ◌≡◌, ◌⊎◌, ◌↔◌, length}
 use mathlib.Core.List.{List, ◌∷◌, ◌++◌, Memᴰ}
 use Rattle.rules.specs.Settings.{Settings}
+use Rattle.rules.specs.Bytes.{byte_at, RE, LIT, LITA}
 use Rattle.rules.specs.Lent.{Lent, standing, room, filled_with, zeroed}
 use Rattle.rules.specs.Reading.{got}
 use Rattle.rules.specs.Walk.{Group, Guarded, Begins}
 use Rattle.rules.specs.Ambiguity.{SpellSame, Ambiguous, FirstPair}
+use Rattle.rules.specs.Attributes.{required, Attribute}
 use Rattle.rules.specs.TypeFile.{Place, model, Element, type_file}
 use Rattle.rules.specs.Judge.{place_at, same_place, Answer, acceptance, records, Accepts, record_width}
 use Rattle.rules.specs.Events.{Event, event_width}
@@ -97,6 +99,27 @@ pub record ReaderAcceptance (l : Lent) (c : Settings) (s d before : List ℕ) (a
   pub fits : event_width * length events ≤ room l before
   pub answer : a ≡ acceptance (length events)
   pub written : after ≡ filled_with (standing l (event_numbers events)) before
+
+-- Paper 02, request one: "Written values are literals in either quote", and what is handed on is "the value
+-- without quotes": of the text t the part from `at` on, of this size. Directly before and behind it stand two
+-- quotes of one kind, both in the text, and it has none of that kind in it. This says where a value lies, and
+-- not of which attribute it is.
+pub record Quoted (t : List ℕ) (at size : ℕ) : Type 0 where
+  pub quote : ℕ
+  pub either : (quote ≡ LIT) ⊎ (quote ≡ LITA)
+  pub behind : 1 ≤ at
+  pub opens : byte_at t (at - 1) ≡ quote
+  pub inside : at + size < length t
+  pub closes : byte_at t (at + size) ≡ quote
+  pub none : (i : ℕ) → at ≤ i → i < at + size → byte_at t i ≡ quote → ⊥
+
+-- "An element with a required attribute": it has one exactly if this does not hold.
+abbrev pub NoneRequired : Element → Type 0
+NoneRequired e = (a : Attribute) → Memᴰ a e.attributes → a.default ≡ required → ⊥
+
+-- No byte of the document is 13, a record end.
+abbrev pub NoRecordEnd : List ℕ → Type 0
+NoRecordEnd d = (i : ℕ) → i < length d → byte_at d i ≡ RE → ⊥
 
 -- The reader "judges the type afresh", and as the judge does, whose answer is a: where the type is at fault, b is the same answer.
 pub record SameVerdict (a b : Answer) : Type 0 where
