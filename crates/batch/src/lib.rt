@@ -3,17 +3,19 @@
 #![tactic(auto)]
 
 ghost use Rattle.std.specs.Prelude.{◌≡◌, ◌+◌, ◌*◌, ◌≤◌, ◌<◌, length, replicate};
-ghost use Rattle.rules.specs.Lent.{Lent};
+ghost use Rattle.rules.specs.Lent.{Lent, zeroed};
 ghost use Rattle.rules.specs.Settings.{settings};
+ghost use Rattle.rules.specs.Judge.{refusal};
 ghost use Rattle.rules.specs.Batch.{Unfit, AllRead, Batched, answer_width, batch_limit};
 ghost use Rattle.rules.specs.Calls.{answer_numbers};
+ghost use Rattle.text.specs.Refusal.{number_of};
 ghost use Rattle.layout.specs.Sizes.{FACTS, INDEX, LISTS, MEMBERS, PLACES, ROWS};
 ghost use Rattle.inputs.specs.Checks.{settings_of};
 ghost use Rattle.stretches.specs.Fit.{batch_of};
 ghost use Rattle.one_document.specs.Answer.{answer_of};
 ghost use Rattle.answer_numbers.specs.Fits.{AnswerFits};
 ghost use Rattle.batch_parts.specs.Ready.{Ready, ReadyFor};
-ghost use Rattle.batch.specs.Turns.{replaced, refused_for};
+ghost use Rattle.batch_laws.specs.Turns.{replaced};
 
 use inputs::Settings;
 use layout::{ANSWER, ELEMENTS, FACTS, INDEX, LISTS, MEMBERS, PLACES, RECORDS, ROWS};
@@ -132,16 +134,20 @@ fn read_all(c: Settings, s: &[u8], p: Parts, bytes: &mut [u8], answers: &mut [u3
     read_parts(g, under, p, bytes, answers);
 }
 
-// The whole call is refused for its settings or its lists, as the type is, at 0.
-fn refused(why: Refusal) -> Refused
-    ensures { result ≡ refused_for why }
+// The whole call is refused for its settings or its lists, as the type is, at 0: all of the buffer is zeroed.
+fn refused(why: Refusal, bytes: &mut [u8]) -> Answer
+    ensures answer { answer_of result ≡ refusal (number_of why) 0 0 0 }
+    ensures answer_fits { AnswerFits result }
+    ensures buffer_zero { bytes.new ≡ zeroed bytes.old }
 {
-    Refused::InType(TypeFault::Malformed(why.at(0)))
+    bytes.fill(0);
+    Err(Refused::InType(TypeFault::Malformed(why.at(0))))
 }
 
-// Reads the documents of a batch under a type file and the settings c: the parts of the string that start at `starts` and have these lengths, each into its
-// own stretch of the buffer. `answers` gets the six numbers of the answer to each. Where the lists are unfit the whole call is refused, and the buffer zeroed. Settings
-// that no call takes refuse the whole call too, beside each document.
+// Reads the documents of a batch under a type file and the settings c: the parts of the string that start at
+// `starts` and have these lengths, each into its own stretch of the buffer. `answers` gets the six numbers of
+// the answer to each. Settings that are not offered, and lists that are unfit, refuse the whole call: the buffer
+// is zeroed, and the answers are as they were.
 pub fn read_batch(
     c: Settings,
     s: &[u8],
@@ -157,23 +163,19 @@ pub fn read_batch(
         bytes.old answers.old (answer_of result) answers.new bytes.new }
     ensures answer_fits { AnswerFits result }
 {
-    if stretches::are_fit(starts, lengths, froms, sizes, answers.len(), bytes.len()) {
-        let p = Parts {
-            string,
-            starts,
-            lengths,
-            froms,
-            sizes,
-        };
-        read_all(c, s, p, bytes, answers);
-        if inputs::is_offered(c) {
-            return Ok(starts.len());
-        }
-        return Err(refused(Refusal::Settings));
+    if !inputs::is_offered(c) {
+        return refused(Refusal::Settings, bytes);
     }
-    bytes.fill(0);
-    if inputs::is_offered(c) {
-        return Err(refused(Refusal::Batch));
+    if !stretches::are_fit(starts, lengths, froms, sizes, answers.len(), bytes.len()) {
+        return refused(Refusal::Batch, bytes);
     }
-    Err(refused(Refusal::Settings))
+    let p = Parts {
+        string,
+        starts,
+        lengths,
+        froms,
+        sizes,
+    };
+    read_all(c, s, p, bytes, answers);
+    Ok(starts.len())
 }

@@ -1,5 +1,5 @@
 -- `put_answer` meets its contract: the six numbers stand in the answer's own stretch.
-use Rattle.batch.specs.Turns.{six_put}
+use Rattle.batch_laws.specs.Turns.{six_put}
 use Rattle.batch.proofs.put_answer.Goals as goal
 
 pub returns : goal.returns

@@ -3,7 +3,7 @@ use Rattle.rules.specs.Lent.{Lent}
 use Rattle.rules.specs.Settings.{settings}
 use Rattle.one_document.specs.Answer.{answer_of}
 use Rattle.stretches.specs.Fit.{batch_of}
-use Rattle.batch.specs.Turns.{done_none, done_again, done_all, fit_few, fit_equal, fit_within}
+use Rattle.batch_laws.specs.Turns.{done_none, done_again, done_all, fit_few, fit_equal, fit_within}
 use Rattle.batch.proofs.read_parts.Goals as goal
 
 pub loop-i-init : goal.loop-i-init

@@ -2,7 +2,7 @@
 use Rattle.rules.specs.Lent.{Lent}
 use Rattle.rules.specs.Settings.{settings}
 use Rattle.stretches.specs.Fit.{batch_of}
-use Rattle.batch.specs.Turns.{Done}
+use Rattle.batch_laws.specs.Turns.{Done}
 use Rattle.batch.proofs.read_parts.Given as goal
 
 abbrev pub invariant-loop-i : goal.invariant-loop-i

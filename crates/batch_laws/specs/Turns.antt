@@ -7,23 +7,14 @@ use Rattle.rules.specs.Settings.{Settings}
 use Rattle.rules.specs.Lent.{Lent, filled_with}
 use Rattle.rules.specs.Judge.{Answer}
 use Rattle.rules.specs.Calls.{answer_numbers}
-use Rattle.text.specs.declared.Refusal.{Refusal}
-use Rattle.text.specs.Refusal.{fault_at}
-use Rattle.type_judge.specs.declared.TypeFault.TheVariants.{Malformed}
-use Rattle.type_stage.specs.declared.Refused.{Refused}
-use Rattle.type_stage.specs.declared.Refused.TheVariants.{InType}
 use Rattle.rules.specs.Batch.{Batch, answer_width, stretch, InStretch, Has, Equal, Unfit, PartAs, AllRead, batch_limit}
-
--- The refusal of the whole call, for its settings or its lists.
-abbrev pub refused_for : Refusal → Refused
-refused_for why = InType (Malformed (fault_at why 0))
 
 -- How long a stretch is that ends within.
 pub stretch_length : (from size : ℕ) (l : List ℕ) → from + size ≤ length l → length (stretch from size l) ≡ size
 stretch_length from size l h = length-take-le size (drop from l) (omega (arith, length-drop from l))
 
 -- The k-th number of a stretch.
-stretch_at : (from size : ℕ) (l : List ℕ) (k : ℕ) → k < size → get_or (stretch from size l) k 0 ≡ get_or l (from + k) 0
+pub stretch_at : (from size : ℕ) (l : List ℕ) (k : ℕ) → k < size → get_or (stretch from size l) k 0 ≡ get_or l (from + k) 0
 stretch_at from size l k h = get_or-take size (drop from l) k 0 h ∙ get_or-drop from l k 0
 
 -- Two lists that have the same numbers in a stretch have the same stretch.
