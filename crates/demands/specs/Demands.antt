@@ -1,7 +1,9 @@
--- The three demands of paper 01 on the type judge and on the document reader, in a page. Read this first, then Words for the words in it, then
--- the rules of crates/rules. `JudgeKeeps` and `ReaderKeeps` say what the demands ask of an answer and of what the lent buffer holds
--- after; the theorems on the calls, further below, say that each call of the source gives just that. That it ends and stays in its buffers is checked with its
--- contract. Meets says the same of the routines of both calls for C.
+-- The three demands of paper 01 on the type judge and on the document reader, in a page. Read this first,
+-- then Words for the words in it, then the rules of crates/rules. `JudgeKeeps` and `ReaderKeeps` say what the
+-- demands ask of an answer and of what the lent buffer holds after; the theorems on the calls, further below,
+-- say that each call of the source gives just that. That it ends and stays in its buffers is checked with its
+-- contract. Meets says the same of the routines of the calls for C. Batches has `BatchKeeps` for a call with
+-- many documents, Listed `ListKeeps` for one that lists attributes.
 use Rattle.std.specs.Prelude.{ℕ, Result, ◌-◌, ◌*◌, ◌<◌, ◌≤◌, ◌≡◌, true, false, ◌↔◌, List, [], ◌∷◌, ◌++◌, length, take, drop}
 use Rattle.std.proofs.Common.{sym, ◌∙◌, ap}
 use contract.Lifetimes.{Lfts}
@@ -25,8 +27,8 @@ use Rattle.rules.specs.Acts.{Acts, Deeds, IsStart, Took, Passes, Few}
 use Rattle.rules.specs.Records.{Line, records_settled}
 use Rattle.rules.specs.Reader.{BothLegible, Reads, RefusesBoth, ReadAs}
 use Rattle.rules.specs.Listing.{Lists}
-use Rattle.rules.specs.Batch.{Batch}
-use Rattle.rules.specs.Calls.{answer_numbers, ListedNumbers}
+use Rattle.rules.specs.Batch.{Batch, Batched}
+use Rattle.rules.specs.Calls.{answer_numbers}
 use Rattle.acts.specs.Readings.{passes_acts, document_acts}
 use Rattle.acts.specs.Deeds.{acts_deeds}
 use Rattle.place_laws.specs.Stood.{stood}
@@ -36,7 +38,10 @@ use Rattle.answer_laws.specs.Reader.{given_one, reading_one}
 use Rattle.demands.specs.Exists.{judged_some, read_some}
 use Rattle.demands.specs.Kept as kept
 use Rattle.demands.specs.Values as values
+use Rattle.demands.specs.Batches as batches
 use Rattle.demands.specs.Batches.{BatchKeeps, batch_keeps}
+use Rattle.demands.specs.Listed as listing
+use Rattle.demands.specs.Listed.{ListKeeps, list_keeps}
 use Rattle.stretches.specs.Fit.{batch_of}
 use Rattle.inputs.specs.Checks.{settings_of}
 use Rattle.type_judge.specs.declared.TypeFault.{TypeFault}
@@ -51,6 +56,8 @@ use Rattle.document_reader.specs.contracts.read as read_call
 use Rattle.document_reader.proofs.read.Reads as read_reads
 use Rattle.document_reader.specs.contracts.read_to_bytes as read_bytes
 use Rattle.document_reader.proofs.read_to_bytes.Reads as read_bytes_reads
+use Rattle.batch.specs.contracts.read_batch as batch_call
+use Rattle.batch.proofs.read_batch.Reads as batch_reads
 use Rattle.attribute_values.specs.contracts.value as value_call
 use Rattle.attribute_values.proofs.value.Reads as value_reads
 use Rattle.sgml.specs.contracts.sgml_judge as c_judge
@@ -170,7 +177,9 @@ pub asks_nothing :
     × ((κs : Lfts 2) (a : ArgsD list_call.signature κs) → list_reads.Asked κs a)
     × ((κs : Lfts 2) (a : ArgsD list_bytes.signature κs) → list_bytes_reads.Asked κs a)
     × ((κs : Lfts 9) (a : ArgsD c_batch.signature κs) → c_batch_reads.Asked κs a)
-asks_nothing = (λ κs a. tt, λ κs a. tt, λ κs a. tt, λ κs a. tt, λ κs a. tt, λ κs a. tt, λ κs a. tt, λ κs a. tt, λ κs a. tt, λ κs a. tt)
+    × ((κs : Lfts 8) (a : ArgsD batch_call.signature κs) → batch_reads.Asked κs a)
+    × ((κs : Lfts 1) (a : ArgsD value_call.signature κs) → value_reads.Asked κs a)
+asks_nothing = (λ κs a. tt, λ κs a. tt, λ κs a. tt, λ κs a. tt, λ κs a. tt, λ κs a. tt, λ κs a. tt, λ κs a. tt, λ κs a. tt, λ κs a. tt, λ κs a. tt, λ κs a. tt)
 
 -- What C gets of `sgml_judge`: the number that is returned and the six numbers are those of one answer, and with what the lent bytes hold then it
 -- keeps the demands.
@@ -201,18 +210,35 @@ ReadGives κs a r e = ReadCall (settings a.1.1.1.1.0 a.1.1.1.1.1.0) a.0.now a.1.
 pub sgml_read : (κs : Lfts 4) (a : ArgsD c_read.signature κs) (r : ℕ) (e : AtExit c_read.ended κs) → c_read_reads.Learnt κs a r e → ReadGives κs a r e
 sgml_read κs a r e (answer, returned, numbers, as_read) = record { answer = answer; returned_is = returned; numbers_are = numbers; keeps = reader_keeps Lent.bytes _ _ _ _ answer _ as_read }
 
--- Paper 02, request five: many documents in one call. The number that is returned and the six numbers are those of one answer to the whole call, and with it goes what
--- `BatchKeeps` of Batches says: each document is answered as the single call answers it, in its own stretch, and 23 is given exactly where the lists are unfit.
+-- Paper 02, request five: many documents in one call. The number that is returned and the six numbers are
+-- those of one answer to the whole call, and with it goes what `BatchKeeps` of Batches says: each document is
+-- answered as the single call answers it, in its own stretch; the whole call is refused with 24 exactly where
+-- the settings are not offered, else with 23 exactly where the lists are unfit, and then all of the buffer is
+-- zero.
 pub record BatchCall (c : Settings) (s string : List ℕ) (b : Batch) (before given : List ℕ) (returned : ℕ) (numbers answers after : List ℕ) : Type 0 where
   pub answer : Answer
   pub returned_is : returned ≡ answer.number
   pub numbers_are : numbers ≡ answer_numbers answer
   pub keeps : BatchKeeps Lent.bytes c s string b before given answer answers after
 
-pub sgml_read_batch : (κs : Lfts 9) (a : ArgsD c_batch.signature κs) (r : ℕ) (e : AtExit c_batch.ended κs) → c_batch_reads.Learnt κs a r e
-    → BatchCall (settings a.1.1.1.1.1.1.1.1.1.0 a.1.1.1.1.1.1.1.1.1.1.0) a.0.now a.1.0.now (batch_of a.1.1.0.now a.1.1.1.0.now a.1.1.1.1.1.0.now a.1.1.1.1.1.1.0.now)
+-- Passed are the type file, the string, the starts and lengths of the parts, the lent bytes, the starts and
+-- lengths of the stretches, the list of the answers, the array for the answer, how long a name may be and the
+-- edition.
+abbrev pub BatchGives : (κs : Lfts 9) → ArgsD c_batch.signature κs → ℕ → AtExit c_batch.ended κs → Type 0
+BatchGives κs a r e =
+    BatchCall (settings a.1.1.1.1.1.1.1.1.1.0 a.1.1.1.1.1.1.1.1.1.1.0) a.0.now a.1.0.now
+    (batch_of a.1.1.0.now a.1.1.1.0.now a.1.1.1.1.1.0.now a.1.1.1.1.1.1.0.now)
     a.1.1.1.1.0.now a.1.1.1.1.1.1.1.0.now r e.1.1.1.1.1.1.1.1.0.now e.1.1.1.1.1.1.1.0.now e.1.1.1.1.0.now
-sgml_read_batch κs a r e (answer, returned, numbers, batched) = record { answer = answer; returned_is = returned; numbers_are = numbers; keeps = batch_keeps Lent.bytes _ _ _ _ _ _ answer _ _ batched }
+
+pub sgml_read_batch : (κs : Lfts 9) (a : ArgsD c_batch.signature κs) (r : ℕ) (e : AtExit c_batch.ended κs)
+    → c_batch_reads.Learnt κs a r e → BatchGives κs a r e
+sgml_read_batch κs a r e (answer, returned, numbers, batched) =
+    record {
+      answer = answer;
+      returned_is = returned;
+      numbers_are = numbers;
+      keeps = batch_keeps Lent.bytes _ _ _ _ _ _ answer _ _ batched;
+    }
 
 -- What Rattle callers get: `judge` with a lent buffer of numbers, `judge_to_bytes` with one of bytes, and the reader likewise. `answer_of`, beside the
 -- code of each, has the paper's numbers for each case of what it returns.
@@ -232,19 +258,46 @@ pub read_to_bytes : (κs : Lfts 3) (a : ArgsD read_bytes.signature κs) (r : Res
     → ReaderKeeps Lent.bytes (settings_of a.0) a.1.0.now a.1.1.0.now a.1.1.1.0.now (means.answer_of r) e.1.1.1.0.now
 read_to_bytes κs a r e (as_read, fits) = reader_keeps Lent.bytes _ _ _ _ _ _ as_read
 
--- The attributes of a type, for a caller who gets their events by number (paper 02, request one): the number that is returned and the six numbers are those of one answer,
--- which refuses as the judge does, or gives nine numbers for each attribute, in the order of the elements and of their lists (`Lists` of the rules).
-pub sgml_attributes : (κs : Lfts 3) (a : ArgsD c_attributes.signature κs) (r : ℕ) (e : AtExit c_attributes.ended κs) → c_attributes_reads.Learnt κs a r e
-    → ListedNumbers (settings a.1.1.1.0 a.1.1.1.1.0) a.0.now a.1.0.now r e.1.1.0.now e.1.0.now
-sgml_attributes κs a r e listed = listed
+pub read_batch : (κs : Lfts 8) (a : ArgsD batch_call.signature κs) (r : Result ℕ Refused)
+    (e : AtExit batch_call.ended κs) → batch_reads.Learnt κs a r e
+    → BatchKeeps Lent.bytes (settings_of a.0) a.1.0.now a.1.1.0.now
+    (batch_of a.1.1.1.0.now a.1.1.1.1.0.now a.1.1.1.1.1.0.now a.1.1.1.1.1.1.0.now)
+    a.1.1.1.1.1.1.1.0.now a.1.1.1.1.1.1.1.1.0.now (means.answer_of r)
+    e.1.1.1.1.1.1.1.1.0.now e.1.1.1.1.1.1.1.0.now
+read_batch κs a r e (batched, fits) = batch_keeps Lent.bytes _ _ _ _ _ _ _ _ _ batched
+
+-- The attributes of a type, for a caller who gets their events by number (paper 02, request one): the number
+-- that is returned and the six numbers are those of one answer, and with it goes what `ListKeeps` of Listed
+-- says: it refuses as the judge does, or gives nine numbers for each attribute, in the order of the elements
+-- and of their lists.
+pub record ListCall (c : Settings) (s before : List ℕ) (returned : ℕ) (numbers after : List ℕ) : Type 0 where
+  pub answer : Answer
+  pub returned_is : returned ≡ answer.number
+  pub numbers_are : numbers ≡ answer_numbers answer
+  pub keeps : ListKeeps Lent.bytes c s before answer after
+
+-- Passed are the type file, the lent bytes, the array for the answer, how long a name may be and the edition.
+abbrev pub ListGives : (κs : Lfts 3) → ArgsD c_attributes.signature κs → ℕ → AtExit c_attributes.ended κs
+    → Type 0
+ListGives κs a r e = ListCall (settings a.1.1.1.0 a.1.1.1.1.0) a.0.now a.1.0.now r e.1.1.0.now e.1.0.now
+
+pub sgml_attributes : (κs : Lfts 3) (a : ArgsD c_attributes.signature κs) (r : ℕ)
+    (e : AtExit c_attributes.ended κs) → c_attributes_reads.Learnt κs a r e → ListGives κs a r e
+sgml_attributes κs a r e (answer, returned, numbers, listed) =
+    record {
+      answer = answer;
+      returned_is = returned;
+      numbers_are = numbers;
+      keeps = list_keeps Lent.bytes _ _ _ answer _ listed;
+    }
 
 pub list : (κs : Lfts 2) (a : ArgsD list_call.signature κs) (r : Result ℕ TypeFault) (e : AtExit list_call.ended κs) → list_reads.Learnt κs a r e
-    → Lists Lent.numbers (settings_of a.0) a.1.0.now a.1.1.0.now (verdict.answer_of r) e.1.1.0.now
-list κs a r e listed = listed
+    → ListKeeps Lent.numbers (settings_of a.0) a.1.0.now a.1.1.0.now (verdict.answer_of r) e.1.1.0.now
+list κs a r e listed = list_keeps Lent.numbers _ _ _ _ _ listed
 
 pub list_to_bytes : (κs : Lfts 2) (a : ArgsD list_bytes.signature κs) (r : Result ℕ TypeFault) (e : AtExit list_bytes.ended κs) → list_bytes_reads.Learnt κs a r e
-    → Lists Lent.bytes (settings_of a.0) a.1.0.now a.1.1.0.now (verdict.answer_of r) e.1.1.0.now
-list_to_bytes κs a r e listed = listed
+    → ListKeeps Lent.bytes (settings_of a.0) a.1.0.now a.1.1.0.now (verdict.answer_of r) e.1.1.0.now
+list_to_bytes κs a r e listed = list_keeps Lent.bytes _ _ _ _ _ listed
 
 -- The rules have an answer to every call, and only one, with what the buffer holds after: so they are total, whatever the code does.
 pub judged_exists : (l : Lent) (c : Settings) (s before : List ℕ) → (a : Answer) × (after : List ℕ) × Judged l c s before a after
@@ -258,6 +311,40 @@ read_exists = read_some
 
 pub read_one : (l : Lent) (c : Settings) (s d before : List ℕ) (a b : Answer) (after other : List ℕ) → ReadAs l c s d before a after → ReadAs l c s d before b other → (a ≡ b) × (after ≡ other)
 read_one = given_one
+
+pub batched_exists : (l : Lent) (c : Settings) (s string : List ℕ) (b : Batch) (before given : List ℕ)
+    → (a : Answer) × (answers : List ℕ) × (after : List ℕ)
+    × Batched l c s string b before given a answers after
+batched_exists = batches.batched_exists
+
+pub batched_one : (l : Lent) (c : Settings) (s string : List ℕ) (b : Batch) (before given : List ℕ)
+    (a x : Answer) (answers after told left : List ℕ)
+    → Batched l c s string b before given a answers after → Batched l c s string b before given x told left
+    → (a ≡ x) × (answers ≡ told) × (after ≡ left)
+batched_one = batches.batched_one
+
+pub listed_exists : (l : Lent) (c : Settings) (s before : List ℕ)
+    → (a : Answer) × (after : List ℕ) × Lists l c s before a after
+listed_exists = listing.listed_exists
+
+pub listed_one : (l : Lent) (c : Settings) (s before : List ℕ) (a b : Answer) (after other : List ℕ)
+    → Lists l c s before a after → Lists l c s before b other → (a ≡ b) × (after ≡ other)
+listed_one = listing.listed_one
+
+-- What `BatchKeeps` and `ListKeeps` say is all that the rules say.
+pub batch_keeps_exactly : (l : Lent) (c : Settings) (s string : List ℕ) (b : Batch) (before given : List ℕ)
+    (a : Answer) (answers after : List ℕ)
+    → Batched l c s string b before given a answers after
+    ↔ BatchKeeps l c s string b before given a answers after
+batch_keeps_exactly l c s string b before given a answers after = (
+  batch_keeps l c s string b before given a answers after,
+  batches.batch_kept l c s string b before given a answers after,
+)
+
+pub list_keeps_exactly : (l : Lent) (c : Settings) (s before : List ℕ) (a : Answer) (after : List ℕ)
+    → Lists l c s before a after ↔ ListKeeps l c s before a after
+list_keeps_exactly l c s before a after =
+    (list_keeps l c s before a after, listing.list_kept l c s before a after)
 
 -- Demand 2: under an accepted type every document has a reading, and only one.
 pub reading_exists : (c : Settings) (s d : List ℕ) (es : List Element) → BothLegible c s d → Accepts c s es

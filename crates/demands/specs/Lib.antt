@@ -1,6 +1,7 @@
 -- The demands of paper 01 on the calls of the source: read Demands first, then Words; OpenElements for the
 -- open elements before and after each step; RecordEnds for record ends.
 pub mod Batches
+pub mod Listed
 pub mod Demands
 pub mod Words
 pub mod OpenElements

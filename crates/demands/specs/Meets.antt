@@ -21,7 +21,13 @@ use Rattle.sgml.proofs.sgml_judge.Met as c_judge_met
 use Rattle.sgml.specs.contracts.sgml_read as c_read
 use Rattle.sgml.proofs.sgml_read.Symbol as c_read_symbol
 use Rattle.sgml.proofs.sgml_read.Met as c_read_met
-use Rattle.demands.specs.Demands.{JudgeGives, sgml_judge, ReadGives, sgml_read}
+use Rattle.sgml.specs.contracts.sgml_read_batch as c_batch
+use Rattle.sgml.proofs.sgml_read_batch.Symbol as c_batch_symbol
+use Rattle.sgml.proofs.sgml_read_batch.Met as c_batch_met
+use Rattle.sgml.specs.contracts.sgml_attributes as c_attributes
+use Rattle.sgml.proofs.sgml_attributes.Symbol as c_attributes_symbol
+use Rattle.sgml.proofs.sgml_attributes.Met as c_attributes_met
+use Rattle.demands.specs.Demands.{JudgeGives, sgml_judge, ReadGives, sgml_read, BatchGives, sgml_read_batch, ListGives, sgml_attributes}
 
 module _ {M : Type 1} {𝓤 : Ura M} (𝓛 : Logic 𝓤) (𝓜 : Model 𝓤 𝓛.H) (𝓡 : Running 𝓤 𝓛.H 𝓜) (T : Ended) (c : Clauses 𝓤 T) where
   -- What may be said of what is passed, what is returned, and what was passed, as it is then.
@@ -54,3 +60,25 @@ module _ {M : Type 1} {𝓤 : Ura M} (𝓛 : Logic 𝓤) (𝓜 : Model 𝓤 𝓛
 
   pub sgml_read_meets : Wired 𝓡.env c_read_symbol.code → RoutineMeets 𝓛 𝓜 𝓡 c_read.ended read_clauses (𝓡.env c_read_symbol.name) (saying 𝓛 𝓜 𝓡 c_read.ended read_clauses ReadGives)
   sgml_read_meets wired = meets_so 𝓛 𝓜 𝓡 c_read.ended read_clauses (𝓡.env c_read_symbol.name) ReadGives (λ κs a g r ws. fact_mono 𝓤 _ _ (sgml_read κs a r (at_exit c_read.ended κs a ws))) (c_read_met.met 𝓤 𝓛 𝓜 𝓡 wired)
+
+  abbrev batch_clauses : Clauses 𝓤 c_batch.ended
+  batch_clauses = c_batch.clauses 𝓛 𝓜.mem 𝓡.returns
+
+  pub sgml_read_batch_meets : Wired 𝓡.env c_batch_symbol.code
+      → RoutineMeets 𝓛 𝓜 𝓡 c_batch.ended batch_clauses (𝓡.env c_batch_symbol.name)
+      (saying 𝓛 𝓜 𝓡 c_batch.ended batch_clauses BatchGives)
+  sgml_read_batch_meets wired =
+      meets_so 𝓛 𝓜 𝓡 c_batch.ended batch_clauses (𝓡.env c_batch_symbol.name) BatchGives
+      (λ κs a g r ws. fact_mono 𝓤 _ _ (sgml_read_batch κs a r (at_exit c_batch.ended κs a ws)))
+      (c_batch_met.met 𝓤 𝓛 𝓜 𝓡 wired)
+
+  abbrev attributes_clauses : Clauses 𝓤 c_attributes.ended
+  attributes_clauses = c_attributes.clauses 𝓛 𝓜.mem 𝓡.returns
+
+  pub sgml_attributes_meets : Wired 𝓡.env c_attributes_symbol.code
+      → RoutineMeets 𝓛 𝓜 𝓡 c_attributes.ended attributes_clauses (𝓡.env c_attributes_symbol.name)
+      (saying 𝓛 𝓜 𝓡 c_attributes.ended attributes_clauses ListGives)
+  sgml_attributes_meets wired =
+      meets_so 𝓛 𝓜 𝓡 c_attributes.ended attributes_clauses (𝓡.env c_attributes_symbol.name) ListGives
+      (λ κs a g r ws. fact_mono 𝓤 _ _ (sgml_attributes κs a r (at_exit c_attributes.ended κs a ws)))
+      (c_attributes_met.met 𝓤 𝓛 𝓜 𝓡 wired)
