@@ -74,14 +74,7 @@ fn as_bytes(row: &[u32; ATTRIBUTE_RECORD]) -> [u8; RECORD_BYTES]
 }
 
 // The record of the attribute a of the element e, behind n records, to each buffer that it fits. What a buffer holds that is too small for all records is not decided.
-fn put_record(
-    numbers: &mut [u32],
-    bytes: &mut [u8],
-    n: usize,
-    e: ElementNo,
-    a: AttributeNo,
-    r: Row,
-)
+fn put_record(numbers: &mut [u32], bytes: &mut [u8], n: usize, e: ElementNo, a: AttributeNo, r: Row)
     requires { (n < ATTCNT * element_limit) × (e.0 ≤ element_limit) × (a.0 ≤ ATTCNT) × Short r }
     ensures { Puts numbers.old bytes.old n (row_numbers e.0 a.0 r) numbers.new bytes.new }
 {
@@ -91,13 +84,7 @@ fn put_record(
 }
 
 // The records of the attributes of the element e, behind n records; how many there are then.
-fn put_list(
-    lists: &[u16],
-    e: ElementNo,
-    n: usize,
-    numbers: &mut [u32],
-    bytes: &mut [u8],
-) -> usize
+fn put_list(lists: &[u16], e: ElementNo, n: usize, numbers: &mut [u32], bytes: &mut [u8]) -> usize
     requires { (1 ≤ e.0) × (e.0 ≤ element_limit) × (n ≤ ATTCNT * (element_limit - 1)) }
     ensures { PutsList lists.now e.0 numbers.old bytes.old n numbers.new bytes.new result × (result ≤ n + ATTCNT) }
 {
