@@ -22,7 +22,7 @@ use Rattle.type_tables.specs.Tables.{Entered}
 use Rattle.record_ends.specs.Held.{Since}
 use Rattle.pieces.specs.Finds.{Named, Starts}
 use Rattle.blanks.specs.declared.Next.TheVariants as next
-use Rattle.blanks.specs.Next.{Names, Ignored, skips, separates, Runs, ToSettle, runs, starts, Follows, MarksOf, Ahead}
+use Rattle.blanks.specs.Next.{Names, Ignored, skips, separates, ToSettle, runs, starts, Follows, MarksOf, Ahead}
 
 -- What stands there whatever is open
 

@@ -6,7 +6,7 @@
 // 64 and that it ends further on, within the document, unless it is refused.
 #![tactic(auto)]
 
-ghost use Rattle.std.specs.Prelude.{◌≡◌, List, ◌+◌, ◌*◌, ◌-◌, ◌≤◌, ◌<◌, length};
+ghost use Rattle.std.specs.Prelude.{List, ◌+◌, ◌*◌, ◌-◌, ◌≤◌, ◌<◌, length};
 ghost use Rattle.rules.specs.Settings.{most_name_length};
 ghost use Rattle.rules.specs.Bytes.{ATTCNT, document_limit, element_limit, type_limit};
 ghost use Rattle.rules.specs.TypeFile.{Element};

@@ -1,7 +1,6 @@
 -- `next_at` meets its contract: a blank by the tables and by record ends, and the rest by what stands there.
 use mathlib.Core.Path.{sym, ◌∙◌}
 use native.Mathlib.Omega.{arith}
-use lib.ListN.{length}
 use Rattle.rules.specs.Settings.{settings}
 use Rattle.record_ends.specs.Held.{line_of}
 use Rattle.blanks.specs.Blanks.{follows_start, follows_end, follows_skipped, follows_data, follows_separator, since_last, follows_ignored, follows_blank, ahead_run}

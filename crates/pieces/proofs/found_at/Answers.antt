@@ -1,10 +1,8 @@
 -- `found_at` meets its contract: by the token that stands there.
-use mathlib.Core.Path.{◌≡◌}
-use native.Mathlib.Omega.{arith}
 use lib.ListN.{length}
 use Rattle.std.proofs.Common.{Ok, Err}
 use Rattle.text.specs.Words.{passed_on}
-use Rattle.document_text.specs.Ways.{token_start, token_end, token_skipped, token_blank, token_data}
+use Rattle.document_text.specs.Ways.{token_start, token_end, token_skipped}
 use Rattle.pieces.specs.Finds.{malformed}
 use Rattle.pieces.specs.Pieces.{start_tag_asked, end_tag_asked, list_held, refused_as, finds_start, finds_misgiven, finds_end, finds_undeclared_start, finds_undeclared_end, onward_start, onward_end, onward_skipped, onward_refused}
 use Rattle.pieces.proofs.found_at.Goals as goal
@@ -86,11 +84,3 @@ returns-in-Skipped c = let a = c.args in
       onward = onward_skipped a.d.now a.at c.requires.2 a.t.long e;
       finds = λ es i l. e;
     }
-
-pub returns-in-Blank : goal.returns-in-Blank
-returns-in-Blank c = let a = c.args in
-    record { onward = c.requires.2; finds = λ es i l. token_blank (length a.d.now) c.piece_at.new.given _ _ c.in_ok-piece.ensures c.in-Blank.is }
-
-pub returns-in-Data : goal.returns-in-Data
-returns-in-Data c = let a = c.args in
-    record { onward = c.requires.2; finds = λ es i l. token_data (length a.d.now) c.piece_at.new.given _ _ c.in_ok-piece.ensures c.in-Data.is }
