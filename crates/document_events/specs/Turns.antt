@@ -29,7 +29,7 @@ use Rattle.layout.specs.Sizes.{MOST_EVENTS}
 use Rattle.document_laws.specs.Decide.{decided}
 use Rattle.document_laws.specs.OneReading.{accepted_decided}
 use Rattle.document_laws.specs.Moves.{state}
-use Rattle.document_laws.specs.Under.{Stands, unchanged, ignored, stands, under_text}
+use Rattle.document_laws.specs.Under.{Stands, unchanged, ignored, stands, under_text, under_refused}
 use Rattle.document_laws.specs.Same.{passes_begun}
 use Rattle.type_laws.specs.Names.{number_of_range}
 use Rattle.record_laws.specs.Fresh.{passes_fresh}
@@ -56,8 +56,11 @@ use Rattle.token_due.specs.EndTags.{due_end_tag}
 use Rattle.settling.specs.Settled.{takes, takes_start, takes_run, Gives, RefusesToken, Settles}
 use Rattle.closing.specs.Closed.{TaggedGot, TaggedRefused, FinishedGot, FinishedRefused}
 use Rattle.pieces.specs.declared.Found.{Found}
-use Rattle.pieces.specs.declared.Found.TheVariants as found
-use Rattle.pieces.specs.Finds.{skips, separates, malformed, undeclared_start, undeclared_end, Unread, Runs, ToSettle, runs, starts, Finds, MarksAt, Onward}
+use Rattle.pieces.specs.Finds.{malformed, misgiven, undeclared_start, undeclared_end, Unread, Finds}
+use Rattle.blanks.specs.declared.Next.{Next}
+use Rattle.blanks.specs.declared.Next.TheVariants as next
+use Rattle.blanks.specs.Next.{skips, separates, Runs, ToSettle, runs, starts, Follows, MarksOf, Ahead}
+use Rattle.blanks.specs.Blanks.{under_misgiven, named_start, named_end}
 use Rattle.document_events.specs.Loop.{EventsOf, Turned, Going}
 use Rattle.document_events.specs.Again.{stands_again}
 
@@ -86,7 +89,7 @@ latest_data c d at after h ev (suc k) opens taken e = absurd (omega arith)
 
 module _ (c : Settings) (s : List ℕ) (es : List Element) (d M : List ℕ) (at since mark : ℕ) (z : State) (h : at < length d) (reach : Reaches c s es d at (line_of since mark) z) (x after : ℕ) where
   -- An end tag.
-  module _ (it : Finds c s es d (line_of since mark) z.current at (Ok (found.End (element_no x) after))) where
+  module _ (it : Follows c s es d (line_of since mark) z.current at (next.End (element_no x) after)) where
     turned_end : {begun : List ℕ} (r : Outcome) {events : List Event} (from : ℕ) → Got (StandsWith es M begun r.open events) (end_element s es (decided s es) x at after z) → Turned c s es d M begun at after mark from events (Ok r)
     turned_end r from (y, e, came) =
         let (n, i) = it in
@@ -127,11 +130,16 @@ settles_declared c s es d l o at x after (runs z f) = omega arith
 settles_declared c s es d l o at x after (starts i n) = omega (arith, n.number, number_of_range s es d n.name n.size)
 
 -- What is refused whatever is open.
-refused_unread : (c : Settings) (s : List ℕ) (es : List Element) (d : List ℕ) (at : ℕ) (l : Line) (z : State) → at < length d → Reaches c s es d at l z → (number position : ℕ) → Unread c s es d l z.current at number position
-    → document c s es (decided s es) d ≡ refused number position
-refused_unread c s es d at l z h reach n k (malformed e) = refused_piece reach h e
-refused_unread c s es d at l z h reach n k (undeclared_start m e i) = rw (e, i) (refused_undeclared_start reach h m.there m.number)
-refused_unread c s es d at l z h reach n k (undeclared_end m e i) = rw (e, i) (refused_undeclared_end reach h m.there m.number)
+refused_unread : (c : Settings) (s : List ℕ) (es : List Element) (d : List ℕ) (at : ℕ) (l : Line) (z : State) → at < length d → Reaches c s es d at l z → (number position : ℕ)
+    → Unread c.name_length s es d at number position → document c s es (decided s es) d ≡ refused number position
+refused_unread c s es d at l z h reach n k (malformed e) = refused_piece reach h (under_refused c s es d at l z.current e)
+refused_unread c s es d at l z h reach n k (misgiven e i) = refused_piece reach h (under_misgiven c s es d at l z.current e i)
+refused_unread c s es d at l z h reach n k (undeclared_start m e i) =
+    let u = named_start c s es d at l z.current m in
+    rw (e, i) (refused_undeclared_start reach h u.there u.number)
+refused_unread c s es d at l z h reach n k (undeclared_end m e i) =
+    let u = named_end c s es d at l z.current m in
+    rw (e, i) (refused_undeclared_end reach h u.there u.number)
 
 -- The loop
 
@@ -192,41 +200,45 @@ module _ {c : Settings} {s elements index rows places facts M lists d begun numb
         omega (arith, b.counted, t.few, g.few, g.inside),
       )
 
--- A turn of the loop: the document has something at `at`, and this is what piece_at ensures of it, the attributes of a start tag being marked.
-pub record Turn (c : Settings) (s elements index rows places facts M lists d begun numbers numbers_now bytes bytes_now : List ℕ) (n at since mark from : ℕ) (o : OpenElements) (p : Result Found Fault) (marks : List ℕ) : Type 0 where
+-- What stands where reading has come to is refused, whatever is open.
+pub piece_refuses : {c : Settings} {s elements index rows places facts M lists d begun numbers numbers_now bytes bytes_now : List ℕ} {n at since mark from : ℕ} {o : OpenElements} {p : Result Found Fault} {marks : List ℕ}
+    → Going c s elements index rows places facts M lists d begun numbers numbers_now bytes bytes_now n at since mark from o → at < length d
+    → ((es : List Element) → Indexed s es elements index → Lists c.name_length s es lists → Finds c.name_length s es d at p marks) → {f : Fault} → p ≡ Err f
+    → (es : List Element) → Indexed s es elements index → Tables s es rows places facts M → Lists c.name_length s es lists → document c s es (decided s es) d ≡ refused f.number f.at
+piece_refuses {c} {s} {d = d} {at = at} {since = since} {mark = mark} g inside said {f} q es i t l =
+    let came = g.any es i t l in
+    refused_unread c s es d at (line_of since mark) came.state inside came.reaches f.number f.at (rw q at (said es i l))
+
+-- A turn of the loop: the document has something at `at`, and this is what `next_at` ensures of it, the attributes of a start tag being marked.
+pub record Turn (c : Settings) (s elements index rows places facts M lists d begun numbers numbers_now bytes bytes_now : List ℕ) (n at since mark from : ℕ) (o : OpenElements) (p : Next) (marks : List ℕ) : Type 0 where
   pub going : Going c s elements index rows places facts M lists d begun numbers numbers_now bytes bytes_now n at since mark from o
   pub inside : at < length d
-  pub onward : Onward (length d) at p
+  pub onward : Ahead (length d) at p
   pub said : (es : List Element) → Indexed s es elements index → Tables s es rows places facts M → Lists c.name_length s es lists → (v : rules.Open) → Entered es M begun o.count o.element.0 o.place.0 v → (since ≡ 0 → is_fresh v ≡ true)
-      → Finds c s es d (line_of since mark) v at p × MarksAt c s es d at p marks
+      → Follows c s es d (line_of since mark) v at p × MarksOf c s es d at p marks
 
-module _ {c : Settings} {s elements index rows places facts M lists d begun numbers numbers_now bytes bytes_now : List ℕ} {n at since mark from : ℕ} {o : OpenElements} {p : Result Found Fault} {marks : List ℕ}
+module _ {c : Settings} {s elements index rows places facts M lists d begun numbers numbers_now bytes bytes_now : List ℕ} {n at since mark from : ℕ} {o : OpenElements} {p : Next} {marks : List ℕ}
     (turn : Turn c s elements index rows places facts M lists d begun numbers numbers_now bytes bytes_now n at since mark from o p marks) where
-  says : (es : List Element) (i : Indexed s es elements index) (t : Tables s es rows places facts M) (l : Lists c.name_length s es lists) → Finds c s es d (line_of since mark) (turn.going.any es i t l).state.current at p × MarksAt c s es d at p marks
+  says : (es : List Element) (i : Indexed s es elements index) (t : Tables s es rows places facts M) (l : Lists c.name_length s es lists) → Follows c s es d (line_of since mark) (turn.going.any es i t l).state.current at p × MarksOf c s es d at p marks
   says es i t l =
       let came = turn.going.any es i t l in
       turn.said es i t l came.state.current came.stands.current.entered (passes_fresh c s es (decided s es) d came.reaches.passes)
 
-  finds : (es : List Element) (i : Indexed s es elements index) (t : Tables s es rows places facts M) (l : Lists c.name_length s es lists) → Finds c s es d (line_of since mark) (turn.going.any es i t l).state.current at p
-  finds es i t l = (says es i t l).0
-
-  pub piece_refuses : {f : Fault} → p ≡ Err f → (es : List Element) → Indexed s es elements index → Tables s es rows places facts M → Lists c.name_length s es lists → document c s es (decided s es) d ≡ refused f.number f.at
-  piece_refuses {f} q es i t l =
-      let came = turn.going.any es i t l in
-      refused_unread c s es d at (line_of since mark) came.state turn.inside came.reaches f.number f.at (rw q at (finds es i t l))
+  follows : (es : List Element) (i : Indexed s es elements index) (t : Tables s es rows places facts M) (l : Lists c.name_length s es lists) → Follows c s es d (line_of since mark) (turn.going.any es i t l).state.current at p
+  follows es i t l = (says es i t l).0
 
   -- Each moves on within the document.
-  pub token_range : {x : ElementNo} {after : ℕ} → p ≡ Ok (found.Token x after) → (at < after) × (after ≤ length d)
+  pub token_range : {x : ElementNo} {after : ℕ} → p ≡ next.Token x after → (at < after) × (after ≤ length d)
   token_range {x} {after} q = let (f, k, m) : (x.0 ≤ element_limit) × (at < after) × (after ≤ length d) = rw q at turn.onward in (k, m)
 
-  pub end_range : {x : ElementNo} {after : ℕ} → p ≡ Ok (found.End x after) → (at < after) × (after ≤ length d)
+  pub end_range : {x : ElementNo} {after : ℕ} → p ≡ next.End x after → (at < after) × (after ≤ length d)
   end_range {x} {after} q = let (f, k, m) : (x.0 ≤ element_limit) × (at < after) × (after ≤ length d) = rw q at turn.onward in (k, m)
 
-  pub passed_range : {after : ℕ} → p ≡ Ok (found.Passed after) → (at < after) × (after ≤ length d)
+  pub passed_range : {after : ℕ} → p ≡ next.Passed after → (at < after) × (after ≤ length d)
   passed_range q = rw q at turn.onward
 
   -- What is ignored leaves the open elements as they were.
-  pub going_passed : {after : ℕ} → p ≡ Ok (found.Passed after) → {marked : ℕ} → marked ≡ mark_behind d at mark → Going c s elements index rows places facts M lists d begun numbers numbers_now bytes bytes_now n after since marked from o
+  pub going_passed : {after : ℕ} → p ≡ next.Passed after → {marked : ℕ} → marked ≡ mark_behind d at mark → Going c s elements index rows places facts M lists d begun numbers numbers_now bytes bytes_now n after since marked from o
   going_passed {after} q {marked} e =
       let (k, m) = passed_range q in
       record {
@@ -241,14 +253,14 @@ module _ {c : Settings} {s elements index rows places facts M lists d begun numb
             let came = turn.going.any es i t l in
             record {
               state = came.state;
-              reaches = subst (λ (k : ℕ). Reaches c s es d after (line_of since k) came.state) (sym e) (by_kind es came.state came.reaches (rw q at (finds es i t l)));
+              reaches = subst (λ (k : ℕ). Reaches c s es d after (line_of since k) came.state) (sym e) (by_kind es came.state came.reaches (rw q at (follows es i t l)));
               latest = came.latest;
               stands = came.stands;
               has = came.has;
             };
       }
     where
-      by_kind : (es : List Element) (z : State) → Reaches c s es d at (line_of since mark) z → Finds c s es d (line_of since mark) z.current at (Ok (found.Passed after)) → Reaches c s es d after (line_of since (mark_behind d at mark)) z
+      by_kind : (es : List Element) (z : State) → Reaches c s es d at (line_of since mark) z → Follows c s es d (line_of since mark) z.current at (next.Passed after) → Reaches c s es d after (line_of since (mark_behind d at mark)) z
       by_kind es z reach (skips e) = reaches_skipped reach turn.inside e
       by_kind es z reach (separates e n a) = rw a (reaches_blank reach turn.inside e n)
 
@@ -256,17 +268,17 @@ module _ {c : Settings} {s elements index rows places facts M lists d begun numb
     asked : (x.0 ≤ element_limit) × (at < after) × (after ≤ length d) → (x.0 ≤ element_limit) × (at ≤ after) × (after < 4294967296) × (n + MOST_EVENTS < 4294967296)
     asked (f, k, m) = (f, omega arith, omega arith, omega (arith, turn.going.few))
 
-    pub token_asked : p ≡ Ok (found.Token x after) → Ranged o × (x.0 ≤ element_limit) × (at ≤ after) × (after < 4294967296) × (n + MOST_EVENTS < 4294967296)
+    pub token_asked : p ≡ next.Token x after → Ranged o × (x.0 ≤ element_limit) × (at ≤ after) × (after < 4294967296) × (n + MOST_EVENTS < 4294967296)
     token_asked q = let (a, b, c, e) = asked (rw q at turn.onward) in (turn.going.ranged, a, b, c, e)
 
-    pub end_asked : p ≡ Ok (found.End x after) → Ranged o × (at ≤ after) × (after < 4294967296) × (x.0 ≤ element_limit) × (n + MOST_EVENTS < 4294967296)
+    pub end_asked : p ≡ next.End x after → Ranged o × (at ≤ after) × (after < 4294967296) × (x.0 ≤ element_limit) × (n + MOST_EVENTS < 4294967296)
     end_asked q = let (a, b, c, e) = asked (rw q at turn.onward) in (turn.going.ranged, b, c, a, e)
 
   module _ {x : ElementNo} {after : ℕ} where
     -- A start tag or a run of data, shown to `shown`.
-    module _ {shown : ℕ} (q : p ≡ Ok (found.Token x after)) (to : shown ≡ shown_end c.edition d after) where
+    module _ {shown : ℕ} (q : p ≡ next.Token x after) (to : shown ≡ shown_end c.edition d after) where
       to_settle : (es : List Element) (i : Indexed s es elements index) (u : Tables s es rows places facts M) (l : Lists c.name_length s es lists) → ToSettle c s es d (line_of since mark) (turn.going.any es i u l).state.current at x.0 after
-      to_settle es i u l = rw q at (finds es i u l)
+      to_settle es i u l = rw q at (follows es i u l)
 
       declared : (es : List Element) → Indexed s es elements index → Tables s es rows places facts M → Lists c.name_length s es lists → x.0 ≤ length es
       declared es i u l = settles_declared c s es d (line_of since mark) (turn.going.any es i u l).state.current at x.0 after (to_settle es i u l)
@@ -299,7 +311,7 @@ module _ {c : Settings} {s elements index rows places facts M lists d begun numb
         tag_gives es i u l v (runs z f) some = absurd (omega arith)
         tag_gives es i u l v (starts k f) some =
             let there = start_text c s es d at (line_of since mark) v f.there in
-            let marked : MarksAt c s es d at (Ok (found.Token x after)) marks = rw q at (says es i u l).1 in
+            let marked : MarksOf c s es d at (next.Token x after) marks = rw q at (says es i u l).1 in
             record { tag = _; there = piece_start_tag c.name_length d at there; marked = marked some _ there }
 
         added : (es : List Element) → Indexed s es elements index → Tables s es rows places facts M → Lists c.name_length s es lists → t.written ≡ with_attributes c.name_length s es d (t.starts ++ shown_of x.0 t.opens t.taken at shown)
@@ -308,7 +320,7 @@ module _ {c : Settings} {s elements index rows places facts M lists d begun numb
             t.adds s es u came.state came.stands (declared es i u l) c.name_length d l (tag_gives es i u l came.state.current (to_settle es i u l))
 
     -- Its ends were inferred first, and a run that was held was freed.
-    module _ {shown m : ℕ} {r : Outcome} {begun' numbers₁ bytes₁ numbers₂ bytes₂ numbers' bytes' : List ℕ} {f : Stop} (q : p ≡ Ok (found.Token x after)) (to : shown ≡ shown_end c.edition d after)
+    module _ {shown m : ℕ} {r : Outcome} {begun' numbers₁ bytes₁ numbers₂ bytes₂ numbers' bytes' : List ℕ} {f : Stop} (q : p ≡ next.Token x after) (to : shown ≡ shown_end c.edition d after)
         (stops : Stops rows places facts M begun x.0 at n o numbers_now bytes_now f numbers₁ bytes₁) (frees : Frees (is_held c.edition d since) from since n f.events numbers₁ bytes₁ m numbers₂ bytes₂)
         (t : Settles rows places facts M lists marks x.0 at shown o begun stops.turns.events m numbers₂ bytes₂ r begun' numbers' bytes') where
       abbrev ends_first : List Event
@@ -346,12 +358,12 @@ module _ {c : Settings} {s elements index rows places facts M lists d begun numb
           }
 
     -- An end tag.
-    module _ (q : p ≡ Ok (found.End x after)) where
+    module _ (q : p ≡ next.End x after) where
       pub end_tag_refuses : {r : Refusal} {numbers' bytes' : List ℕ} → TaggedRefused facts x.0 at after n o numbers_now bytes_now r numbers' bytes' → {f : Fault} → f ≡ fault_at r at
           → (es : List Element) → Indexed s es elements index → Tables s es rows places facts M → Lists c.name_length s es lists → document c s es (decided s es) d ≡ refused f.number f.at
       end_tag_refuses t e es i u l =
           let came = turn.going.any es i u l in
-          rw e (end_refused c s es d M at since mark came.state turn.inside came.reaches x.0 after (rw q at (finds es i u l)) (t.closes s es u.raised u.facts_say M begun came.state came.stands))
+          rw e (end_refused c s es d M at since mark came.state turn.inside came.reaches x.0 after (rw q at (follows es i u l)) (t.closes s es u.raised u.facts_say M begun came.state came.stands))
 
       module _ {r : Outcome} {numbers' bytes' : List ℕ} (t : TaggedGot facts x.0 at after n o numbers_now bytes_now r numbers' bytes') where
         closes : (es : List Element) (i : Indexed s es elements index) (u : Tables s es rows places facts M) (l : Lists c.name_length s es lists)
@@ -361,7 +373,7 @@ module _ {c : Settings} {s elements index rows places facts M lists d begun numb
         ended : (es : List Element) (i : Indexed s es elements index) (u : Tables s es rows places facts M) (l : Lists c.name_length s es lists) → Turned c s es d M begun at after mark from ((turn.going.any es i u l).state.events ++ t.brings.events) (Ok r)
         ended es i u l =
             let came = turn.going.any es i u l in
-            turned_end c s es d M at since mark came.state turn.inside came.reaches x.0 after (rw q at (finds es i u l)) r from (closes es i u l)
+            turned_end c s es d M at since mark came.state turn.inside came.reaches x.0 after (rw q at (follows es i u l)) r from (closes es i u l)
 
         -- What was due stands, and its ends behind.
         end_due : (es : List Element) (i : Indexed s es elements index) (u : Tables s es rows places facts M) (l : Lists c.name_length s es lists)

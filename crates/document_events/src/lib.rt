@@ -14,9 +14,10 @@ ghost use Rattle.list_table.specs.Lists.{Lists};
 ghost use Rattle.type_tables.specs.Tables.{Tables};
 ghost use Rattle.document_events.specs.Loop.{EventsOf};
 
+use blanks::Next;
 use layout::{BEGUN, GIVEN, MARKS, TAGLVL};
 use open_elements::OpenElements;
-use pieces::{Found, Type};
+use pieces::Type;
 use record_ends::Line;
 use text::{Reading, Refusal};
 
@@ -58,12 +59,10 @@ pub fn events_of(
     while at < d.len() {
         let e = o.element;
         let u = o.place;
-        let p = pieces::found_at(
-            t, classes, &begun, d, o.count, e, u, at, line, &mut given, &mut marks,
-        )?;
-        match p {
+        let p = pieces::found_at(t, classes, d, at, &mut given, &mut marks)?;
+        match blanks::next_at(t, classes, &begun, d, o.count, e, u, at, line, p) {
             // A start tag of x, or a run of data where x is 0.
-            Found::Token(x, after) => {
+            Next::Token(x, after) => {
                 // The document element has ended.
                 if ways::is_over(o) {
                     return Err(Refusal::AfterEnd.at(at));
@@ -119,7 +118,7 @@ pub fn events_of(
                 line = line.taken(after);
                 at = after;
             }
-            Found::End(x, after) => {
+            Next::End(x, after) => {
                 match closing::end_tag(t.tables.facts, o, x, at, after, n, numbers, bytes) {
                     Ok(r) => {
                         n = r.events;
@@ -130,7 +129,7 @@ pub fn events_of(
                 line = line.taken(after);
                 at = after;
             }
-            Found::Passed(after) => {
+            Next::Passed(after) => {
                 line = line.marked(d, at);
                 at = after;
             }

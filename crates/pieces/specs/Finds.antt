@@ -1,18 +1,11 @@
--- What stands at a position of a document under the settings c and a type, in the rules' terms.
-use Rattle.std.specs.Prelude.{ℕ, Result, Ok, Err, ◌+◌, ◌-◌, ◌≤◌, ◌<◌, ◌≡◌, true, List}
-use Rattle.rules.specs.Settings.{Settings}
+-- What stands at a position of a document under a type, in the rules' terms, whatever is open.
+use Rattle.std.specs.Prelude.{ℕ, Result, Ok, Err, ◌-◌, ◌≤◌, ◌<◌, ◌≡◌, List}
+use Rattle.rules.specs.Bytes.{element_limit}
 use Rattle.rules.specs.Reading.{refused, got}
 use Rattle.rules.specs.TypeFile.{Element}
-use Rattle.rules.specs.Document.{Written, Tag, start_tag, end_tag, skipped, blank, piece}
-use Rattle.rules.specs.Document as rules
+use Rattle.rules.specs.Document.{Written, Tag, Piece, start_tag, end_tag, skipped, blank, data_byte, piece}
 use Rattle.rules.specs.Elements.{element_at, number_of}
-use Rattle.rules.specs.Decisions.{pcdata}
-use Rattle.rules.specs.Settling.{Open, fitting}
-use Rattle.rules.specs.Records.{Line}
-use Rattle.rules.specs.Reader.{piece_under}
-use Rattle.document_laws.specs.Decide.{decided}
-use Rattle.rules_laws.specs.Runs.{is_run, run_end}
-use Rattle.rules.specs.Bytes.{element_limit}
+use Rattle.rules.specs.Given.{piece_attributed}
 use Rattle.text.specs.declared.Fault.{Fault}
 use Rattle.text.specs.declared.Refusal.TheVariants.{Undeclared}
 use Rattle.text.specs.Refusal.{fault_at}
@@ -21,62 +14,49 @@ use Rattle.attribute_marks.specs.Marks.{Marked}
 use Rattle.pieces.specs.declared.Found.{Found}
 use Rattle.pieces.specs.declared.Found.TheVariants as found
 
--- A tag at `at`, up to `after`, that names the element x; 0 if none is declared so. The attributes that it gives are those of the element's list.
-pub record Names (c : Settings) (s : List ℕ) (es : List Element) (d : List ℕ) (l : Line) (o : Open) (kind : Tag → rules.Piece) (at x after : ℕ) : Type 0 where
+-- A tag at `at`, up to `after`, that names the element x; 0 if none is declared so. The attributes that it
+-- gives are those of the element's list.
+pub record Named (long : ℕ) (s : List ℕ) (es : List Element) (d : List ℕ) (kind : Tag → Piece) (at x after : ℕ) : Type 0 where
   pub name : ℕ
   pub size : ℕ
   pub written : List Written
-  pub there : piece_under c s es d at l o ≡ got (kind (record { name = name; size = size; after = after; written = written }))
+  pub there : piece long d at ≡ got (kind (record { name = name; size = size; after = after; written = written }))
+  pub listed : piece_attributed long s es d at (kind (record { name = name; size = size; after = after; written = written })) ≡ got tt
   pub number : number_of s es d name size ≡ x
 
--- What is ignored at `at`, up to `after`, in the open element o behind the line l.
-pub data Ignored (c : Settings) (s : List ℕ) (es : List Element) (d : List ℕ) (l : Line) (o : Open) (at after : ℕ) : Type 0 where
-  skips : piece_under c s es d at l o ≡ got (skipped after) → Ignored c s es d l o at after
-  separates : piece_under c s es d at l o ≡ got blank → fitting s es (decided s es) o pcdata ≡ 0 → after ≡ at + 1 → Ignored c s es d l o at after
+-- What is refused at `at`: the piece, the attributes of a start tag, or a name that is not declared.
+pub data Unread (long : ℕ) (s : List ℕ) (es : List Element) (d : List ℕ) (at number position : ℕ) : Type 0 where
+  malformed : piece long d at ≡ refused number position → Unread long s es d at number position
+  misgiven : {p : Piece} → piece long d at ≡ got p → piece_attributed long s es d at p ≡ refused number position → Unread long s es d at number position
+  undeclared_start : {after : ℕ} → Named long s es d start_tag at 0 after → number ≡ 10 → position ≡ at → Unread long s es d at number position
+  undeclared_end : {after : ℕ} → Named long s es d end_tag at 0 after → number ≡ 10 → position ≡ at → Unread long s es d at number position
 
--- What is refused at `at` whatever is open.
-pub data Unread (c : Settings) (s : List ℕ) (es : List Element) (d : List ℕ) (l : Line) (o : Open) (at number position : ℕ) : Type 0 where
-  malformed : piece_under c s es d at l o ≡ refused number position → Unread c s es d l o at number position
-  undeclared_start : {after : ℕ} → Names c s es d l o start_tag at 0 after → number ≡ 10 → position ≡ at → Unread c s es d l o at number position
-  undeclared_end : {after : ℕ} → Names c s es d l o end_tag at 0 after → number ≡ 10 → position ≡ at → Unread c s es d l o at number position
+-- The start tag at `at` is of the element x, and each attribute of that is marked as the tag gives it.
+pub record Starts (long : ℕ) (s : List ℕ) (es : List Element) (d : List ℕ) (at x after : ℕ) (marks : List ℕ) : Type 0 where
+  pub some : 1 ≤ x
+  pub tag : Named long s es d start_tag at x after
+  pub marked : (t : Tag) → piece long d at ≡ got (start_tag t) → Marked s (element_at es (x - 1)).attributes d t.written marks
 
--- A run of data at `at`, up to `after`: a blank begins one only where data may come next.
-pub record Runs (c : Settings) (s : List ℕ) (es : List Element) (d : List ℕ) (l : Line) (o : Open) (at after : ℕ) : Type 0 where
-  pub run : is_run (piece_under c s es d at l o) ≡ true
-  pub fits : piece_under c s es d at l o ≡ got blank → 1 ≤ fitting s es (decided s es) o pcdata
-  pub ends : after ≡ run_end d (at + 1)
+-- What the code finds at `at` of d.
+abbrev pub Stands : (long : ℕ) (s : List ℕ) (es : List Element) (d : List ℕ) (at : ℕ) → Found → (marks : List ℕ) → Type 0
+Stands long s es d at (found.Start x after) marks = Starts long s es d at x.0 after marks
+Stands long s es d at (found.End x after) marks = Named long s es d end_tag at x.0 after × (1 ≤ x.0)
+Stands long s es d at (found.Passed after) marks = piece long d at ≡ got (skipped after)
+Stands long s es d at found.Blank marks = piece long d at ≡ got blank
+Stands long s es d at found.Data marks = piece long d at ≡ got data_byte
 
--- What is to be settled at `at`, up to `after`: the start tag of the element x, or a run of data for 0.
-pub data ToSettle (c : Settings) (s : List ℕ) (es : List Element) (d : List ℕ) (l : Line) (o : Open) (at x after : ℕ) : Type 0 where
-  runs : x ≡ 0 → Runs c s es d l o at after → ToSettle c s es d l o at x after
-  starts : 1 ≤ x → Names c s es d l o start_tag at x after → ToSettle c s es d l o at x after
+abbrev pub Finds : (long : ℕ) (s : List ℕ) (es : List Element) (d : List ℕ) (at : ℕ) → Result Found Fault → (marks : List ℕ) → Type 0
+Finds long s es d at (Ok p) marks = Stands long s es d at p marks
+Finds long s es d at (Err f) marks = Unread long s es d at f.number f.at
 
--- What the code finds at `at` of d, where the current element is o and l is the line.
-abbrev pub Stands : Settings → (s : List ℕ) (es : List Element) (d : List ℕ) (l : Line) (o : Open) (at : ℕ) → Found → Type 0
-Stands c s es d l o at (found.Token x after) = ToSettle c s es d l o at x.0 after
-Stands c s es d l o at (found.End x after) = Names c s es d l o end_tag at x.0 after × (1 ≤ x.0)
-Stands c s es d l o at (found.Passed after) = Ignored c s es d l o at after
-
-abbrev pub Finds : Settings → (s : List ℕ) (es : List Element) (d : List ℕ) (l : Line) (o : Open) (at : ℕ) → Result Found Fault → Type 0
-Finds c s es d l o at (Ok p) = Stands c s es d l o at p
-Finds c s es d l o at (Err f) = Unread c s es d l o at f.number f.at
-
--- Where it is a start tag of the element x, each attribute of that is marked as the tag gives it.
-abbrev pub MarksOf : Settings → (s : List ℕ) (es : List Element) (d : List ℕ) (at : ℕ) → Found → (marks : List ℕ) → Type 0
-MarksOf c s es d at (found.Token x after) marks = 1 ≤ x.0 → (t : Tag) → piece c.name_length d at ≡ got (start_tag t) → Marked s (element_at es (x.0 - 1)).attributes d t.written marks
-MarksOf c s es d at (found.End x after) marks = Unit {0}
-MarksOf c s es d at (found.Passed after) marks = Unit {0}
-
-abbrev pub MarksAt : Settings → (s : List ℕ) (es : List Element) (d : List ℕ) (at : ℕ) → Result Found Fault → (marks : List ℕ) → Type 0
-MarksAt c s es d at (Ok p) marks = MarksOf c s es d at p marks
-MarksAt c s es d at (Err f) marks = Unit {0}
-
--- What is found moves on and stays within the document, which is `len` bytes long, and names an element that the tables have room for,
--- whatever they hold.
+-- What is found moves on and stays within the document, which is `len` bytes long, and names an element that
+-- the tables have room for, whatever they hold.
 abbrev pub MovesOn : (len at : ℕ) → Found → Type 0
-MovesOn len at (found.Token x after) = (x.0 ≤ element_limit) × (at < after) × (after ≤ len)
+MovesOn len at (found.Start x after) = (x.0 ≤ element_limit) × (at < after) × (after ≤ len)
 MovesOn len at (found.End x after) = (x.0 ≤ element_limit) × (at < after) × (after ≤ len)
 MovesOn len at (found.Passed after) = (at < after) × (after ≤ len)
+MovesOn len at found.Blank = at < len
+MovesOn len at found.Data = at < len
 
 abbrev pub Onward : (len at : ℕ) → Result Found Fault → Type 0
 Onward len at (Ok p) = MovesOn len at p

@@ -1,21 +1,19 @@
-// What stands at a position of a document, names looked up.
+// What stands at a position of a document, names looked up: its bytes and the declared names decide that,
+// and nothing that is open.
 //
-// `begun` has the bits of what has begun in each open element, `classes` is the table of delimiters,
-// `given` that of tag_attributes, `marks` that of attribute_marks. Where the tables are no type's, what is
-// found is not decided, but that its element is at most 64 and that it ends further on, within the
-// document, unless it is refused.
+// `classes` is the table of delimiters, `given` that of tag_attributes, `marks` that of attribute_marks.
+// Where the index and the lists are no type's, what is found is unspecified, but that its element is at most
+// 64 and that it ends further on, within the document, unless it is refused.
 #![tactic(auto)]
 
-ghost use Rattle.std.specs.Prelude.{◌≡◌, true, List, ◌+◌, ◌*◌, ◌-◌, ◌≤◌, ◌<◌, length};
-ghost use Rattle.rules.specs.Settings.{settings, most_name_length};
-ghost use Rattle.rules.specs.Bytes.{ATTCNT, GRPGTCNT, TAGLVL, document_limit, element_limit, type_limit};
+ghost use Rattle.std.specs.Prelude.{List, ◌+◌, ◌*◌, ◌-◌, ◌≤◌, ◌<◌, length};
+ghost use Rattle.rules.specs.Settings.{most_name_length};
+ghost use Rattle.rules.specs.Bytes.{ATTCNT, document_limit, element_limit, type_limit};
 ghost use Rattle.rules.specs.TypeFile.{Element};
 ghost use Rattle.rules.specs.Attributes.{Attribute};
 ghost use Rattle.rules.specs.Document as document;
 ghost use Rattle.rules.specs.Elements.{number_of};
 ghost use Rattle.rules.specs.Given.{attributed};
-ghost use Rattle.rules.specs.Settling as rules;
-ghost use Rattle.rules.specs.Records.{is_fresh};
 ghost use Rattle.layout.specs.Sizes.{LIST};
 ghost use Rattle.delimiters.specs.Classes.{Classes};
 ghost use Rattle.tag_attributes.specs.Given.{KeptAs, GivenIn};
@@ -23,13 +21,10 @@ ghost use Rattle.element_index.specs.Indexed.{Indexed};
 ghost use Rattle.list_table.specs.Lists.{ListAt, Lists};
 ghost use Rattle.attribute_marks.specs.Differ.{NamesDiffer};
 ghost use Rattle.attribute_marks.specs.Marks.{Attributed};
-ghost use Rattle.type_tables.specs.Tables.{Tables, Entered};
-ghost use Rattle.record_ends.specs.Held.{line_of};
-ghost use Rattle.pieces.specs.Finds.{Finds, MarksAt, Onward, Numbered, Ranged};
+ghost use Rattle.pieces.specs.Finds.{Finds, Onward, Numbered, Ranged};
 
 use document_text::Piece;
-use layout::{BEGUN, ElementNo, GIVEN, INDEX, MARKS, Place, RECORDS};
-use record_ends::Line;
+use layout::{ElementNo, GIVEN, INDEX, MARKS, RECORDS};
 use tags::Tag;
 use text::{Reading, Refusal};
 use type_tables::TypeTables;
@@ -51,13 +46,16 @@ pub struct Type<'a> {
 // What stands at a position of the document, names looked up.
 #[derive(Drop)]
 pub enum Found {
-    // It is the start tag of an element, or a run of data for 0, up to here.
-    // Kept: 0 for data (plainer): both are settled by the same steps, and the tables have a cell for each.
-    Token(ElementNo, usize),
+    // It is the start tag of an element, up to here.
+    Start(ElementNo, usize),
     // It is the end tag of an element, up to here.
     End(ElementNo, usize),
-    // It is ignored, up to here.
+    // It is ignored whatever is open, up to here.
     Passed(usize),
+    // It is a byte 9, 13 or 32: what is open decides whether it is data or ignored.
+    Blank,
+    // It is another byte that is data.
+    Data,
 }
 
 // The element that the tag at `at` names.
@@ -101,57 +99,37 @@ fn held(
     attribute_marks::check(t.long, t.file, t.lists, d, x, given, n, at, marks)
 }
 
-// What stands at `at`, where the current element, of which so many are around it as `level` says, is e
-// after the place u. Where it is a start tag, `marks` has the attributes that it gives; else, and where it
-// is refused, what that holds is not decided. What `given` holds afterwards is never decided: it is room for
-// what a tag gives.
+// What stands at `at`, whatever is open. Where it is a start tag, `marks` has the attributes that it gives;
+// else, and where it is refused, what `marks` holds is unspecified. What `given` holds then is unspecified in
+// any case: it is room for what a tag gives.
 pub fn found_at(
     t: Type,
     classes: &[u8; 256],
-    begun: &[u32; BEGUN],
     d: &[u8],
-    level: usize,
-    e: ElementNo,
-    u: Place,
     at: usize,
-    line: Line,
     given: &mut [u16; GIVEN],
     marks: &mut [u16; MARKS],
 ) -> Reading<Found>
-    requires { Classes classes.now × (t.long ≤ most_name_length) × (level ≤ TAGLVL) ×
-        (e.0 ≤ element_limit) × (u.0 ≤ GRPGTCNT) × (at < length d.now) ×
-        (length d.now ≤ document_limit) × (length t.file.now ≤ type_limit) × (line.since ≤ at) }
+    requires { Classes classes.now × (t.long ≤ most_name_length) × (at < length d.now) ×
+        (length d.now ≤ document_limit) × (length t.file.now ≤ type_limit) }
     ensures onward { Onward (length d.now) at result }
     ensures finds { (es : List Element) → Indexed t.entry.file.now es t.entry.elements.now t.entry.index.now →
-        Tables t.entry.file.now es t.entry.tables.rows.now t.entry.tables.places.now t.entry.tables.facts.now t.entry.tables.members.now →
         Lists t.entry.long t.entry.file.now es t.entry.lists.now →
-        (o : rules.Open) → Entered es t.entry.tables.members.now begun.now level e.0 u.0 o →
-        (line.since ≡ 0 → is_fresh o ≡ true) →
-        Finds (settings t.entry.long t.entry.edition) t.entry.file.now es d.now (line_of line.since line.mark) o at result ×
-        MarksAt (settings t.entry.long t.entry.edition) t.entry.file.now es d.now at result marks.new }
+        Finds t.entry.long t.entry.file.now es d.now at result marks.new }
 {
     let piece = document_text::piece_at(t.long, classes, d, at, given)?;
     match piece {
         Piece::StartTag(g) => {
             let x = tagged(t, d, g, at)?;
             held(t, d, x, given, g.given, at, marks)?;
-            return Ok(Found::Token(x, g.after));
+            Ok(Found::Start(x, g.after))
         }
         Piece::EndTag(g) => {
             let x = tagged(t, d, g, at)?;
-            return Ok(Found::End(x, g.after));
+            Ok(Found::End(x, g.after))
         }
-        Piece::Skipped(j) => return Ok(Found::Passed(j)),
-        Piece::Blank => {
-            if !type_tables::takes_data(t.tables, begun, level, e, u) {
-                return Ok(Found::Passed(at + 1));
-            }
-            if line.is_ignored(t.edition, d, at, u) {
-                return Ok(Found::Passed(at + 1));
-            }
-        }
-        Piece::Data => {}
+        Piece::Skipped(j) => Ok(Found::Passed(j)),
+        Piece::Blank => Ok(Found::Blank),
+        Piece::Data => Ok(Found::Data),
     }
-    let data = ElementNo(0);
-    Ok(Found::Token(data, data_runs::run_end(classes, d, at + 1)))
 }

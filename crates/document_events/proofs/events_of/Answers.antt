@@ -1,9 +1,8 @@
 use Prim.Native.Nat.{ℕ, ◌+◌, ◌≤◌, ◌<◌}
-use mathlib.Core.Path.{◌≡◌, refl, sym, ◌∙◌, ap}
+use mathlib.Core.Path.{◌≡◌, refl, sym, ◌∙◌}
 use mathlib.Core.Bool.{true, false}
 use mathlib.Core.List.{List}
 use native.Mathlib.Omega.{arith}
-use Rattle.std.specs.Prelude.{Ok}
 use Rattle.rules.specs.Settings.{settings}
 use Rattle.rules.specs.TypeFile.{Element}
 use Rattle.rules.specs.Settling.{State, is_over}
@@ -20,17 +19,23 @@ use Rattle.placing.specs.Places.{places_opened}
 use Rattle.settling.specs.Tokens.{refuses_over, refuses_many, refuses_placed, settles_placed}
 use Rattle.record_ends.specs.Held.{is_held, shown_end, Frees}
 use Rattle.record_ends.specs.Freeing.{frees_same, shown_range}
-use Rattle.pieces.specs.declared.Found.TheVariants as found
+use Rattle.blanks.specs.declared.Next.TheVariants as next
 use Rattle.document_events.specs.Turns.{going_start, Turn, piece_refuses, token_asked, token_range, token_refuses, going_token, end_tag_refuses, going_end, going_passed, end_refuses, end_counts}
 use Rattle.document_events.proofs.events_of.Goals as goal
-use Rattle.document_events.proofs.events_of.Goals.{After-found_at, After-ends-f, Joined-starts-eq0, Joined-t-ne0, then-starts-eq0, else-starts-eq0+else-o-starts-gt-TAGLVL, then-t-ne0, else-t-ne0, then-opens, else-opens}
+use Rattle.document_events.proofs.events_of.Goals.{After-next_at, After-ends-f, Joined-starts-eq0, Joined-t-ne0, then-starts-eq0, else-starts-eq0+else-o-starts-gt-TAGLVL, then-t-ne0, else-t-ne0, then-opens, else-opens}
 
 -- A turn of the loop.
-at_turn : (c : After-found_at) →
+at_turn : (c : After-next_at) →
     let t = c.args.t in
     let l = c.loop-at in
-    Turn (settings t.long t.edition) t.file.now t.elements.now t.index.now t.tables.rows.now t.tables.places.now t.tables.facts.now t.tables.members.now t.lists.now c.args.d.now l.begun c.args.numbers.now l.numbers c.args.bytes.now l.bytes l.n l.at l.line.since l.line.mark l.from l.o c.found_at.result c.found_at.new.marks
-at_turn c = record { going = c.loop-at.invariant; inside = omega (arith, c.loop-at-test.true); onward = c.found_at.ensures.onward; said = c.found_at.ensures.finds }
+    Turn (settings t.long t.edition) t.file.now t.elements.now t.index.now t.tables.rows.now t.tables.places.now t.tables.facts.now t.tables.members.now t.lists.now c.args.d.now l.begun c.args.numbers.now l.numbers c.args.bytes.now l.bytes l.n l.at l.line.since l.line.mark l.from l.o c.next_at.result c.found_at.new.marks
+at_turn c =
+    record {
+      going = c.loop-at.invariant;
+      inside = omega (arith, c.loop-at-test.true);
+      onward = c.next_at.ensures.ahead;
+      said = λ es i t l v r n. c.next_at.ensures.follows es c.found_at.new.marks t (c.in_ok-p.ensures.finds es i l) v r n;
+    }
 
 -- The document is not over.
 on : (c : After-ends-f) → (s : List ℕ) (es : List Element) (z : State) → Stands es c.args.t.tables.members.now c.loop-at.begun c.loop-at.o z → is_over s es (decided s es) z ≡ false
@@ -62,36 +67,41 @@ attributed c =
       | else-t-ne0 w ↦ written_same (written_none _ _ _ _ _ _ (omega (arith, w.if-t-ne0.false))) w.numbers-is w.bytes-is w.m-is
     ]
 
--- What was found, where it is a token.
-is_token : (c : After-ends-f) → c.found_at.result ≡ Ok (found.Token c.in-Token.x c.in-Token.after)
-is_token c = c.in_ok-p.was ∙ ap Ok c.in-Token.is
+-- What comes next, where it is a token.
+is_token : (c : After-ends-f) → c.next_at.result ≡ next.Token c.in-Token.x c.in-Token.after
+is_token c = c.in-Token.is
 
 pub loop-at-init : goal.loop-at-init
 loop-at-init c = going_start _ _ _ _ _ _ _ _ _ _ _ _ _ c.new-o.ensures
 
 pub found_at-requires : goal.found_at-requires
 found_at-requires c =
-    let g = c.loop-at.invariant in
     let p = c.requires in
-    (p.0, p.1, g.ranged.few, g.ranged.element, g.ranged.place, omega (arith, c.loop-at-test.true), p.2, p.3, g.since_inside)
+    (p.0, p.1, omega (arith, c.loop-at-test.true), p.2, p.3)
 
 pub returns-in_err-p : goal.returns-in_err-p
-returns-in_err-p c = rw (passed_on _ c.from_residual.ensures.1) (piece_refuses (at_turn (goal.at.returns-in_err-p c).After-found_at) c.in_err-p.was)
+returns-in_err-p c = rw (passed_on _ c.from_residual.ensures.1) (piece_refuses c.loop-at.invariant (omega (arith, c.loop-at-test.true)) c.found_at.ensures.finds c.in_err-p.was)
+
+pub next_at-requires : goal.next_at-requires
+next_at-requires c =
+    let g = c.loop-at.invariant in
+    let p = c.requires in
+    (p.0, g.ranged.few, g.ranged.element, g.ranged.place, omega (arith, c.loop-at-test.true), p.2, g.since_inside, c.in_ok-p.ensures.onward)
 
 pub returns-then-is_over : goal.returns-then-is_over
 returns-then-is_over c =
-    token_refuses (at_turn (goal.at.returns-then-is_over c).After-found_at) {shown = shown_end c.args.t.edition c.args.d.now c.in-Token.after} (c.in_ok-p.was ∙ ap Ok c.in-Token.is) refl
+    token_refuses (at_turn (goal.at.returns-then-is_over c).After-next_at) {shown = shown_end c.args.t.edition c.args.d.now c.in-Token.after} c.in-Token.is refl
     (refuses_over _ _ _ _ _ _ _ _ _ (λ s es z stands. sym (over_says s stands) ∙ sym c.is_over.ensures ∙ c.if-is_over.true)) c.at.ensures
 
 pub ends-f-requires : goal.ends-f-requires
 ends-f-requires c =
-    let a = token_asked (at_turn (goal.at.ends-f-requires c).After-found_at) c.requires.2 (c.in_ok-p.was ∙ ap Ok c.in-Token.is) in
+    let a = token_asked (at_turn (goal.at.ends-f-requires c).After-next_at) c.requires.2 c.in-Token.is in
     (a.0, a.1, omega (arith, a.2, a.3), omega (arith, a.4))
 
 pub returns-then-o-starts-gt-TAGLVL : goal.returns-then-o-starts-gt-TAGLVL
 returns-then-o-starts-gt-TAGLVL c =
     let g = goal.at.returns-then-o-starts-gt-TAGLVL c in
-    let t = at_turn g.After-found_at in
+    let t = at_turn g.After-next_at in
     token_refuses t {shown = shown_end c.args.t.edition c.args.d.now c.in-Token.after} (is_token g.After-ends-f) refl
     (refuses_many (shown_end c.args.t.edition c.args.d.now c.in-Token.after) t.going.ranged.few (on g.After-ends-f) c.ends-f.ensures (omega (arith, c.if-o-starts-gt-TAGLVL.true, c.starts_of-starts.ensures)))
     c.at-then-o-starts-gt-TAGLVL.ensures
@@ -107,7 +117,7 @@ loop-k-preserved c =
 pub placed-requires : goal.placed-requires
 placed-requires c =
     let g = goal.at.placed-requires c in
-    let t = at_turn g.After-found_at in
+    let t = at_turn g.After-next_at in
     let a = token_asked t c.requires.2 (is_token g.After-ends-f) in
     let f = (attributed g.Joined-t-ne0).few in
     let h = shown_range c.args.t.edition c.args.d.now (token_range t (is_token g.After-ends-f)).0 c.shown_end-shown.ensures in
@@ -120,7 +130,7 @@ placed-requires c =
 pub returns-in-Err : goal.returns-in-Err
 returns-in-Err c =
     let g = goal.at.returns-in-Err c in
-    let t = at_turn g.After-found_at in
+    let t = at_turn g.After-next_at in
     token_refuses t (is_token g.After-ends-f) c.shown_end-shown.ensures
     (refuses_placed c.shown_end-shown.result t.going.ranged.few (on g.After-ends-f) c.ends-f.ensures c.starts_of-starts.ensures (limit g.Joined-starts-eq0) c.loop-k.invariant c.loop-k-test.false c.in-Err.ensures)
     c.at-in-Err.ensures
@@ -128,7 +138,7 @@ returns-in-Err c =
 pub loop-at-preserved-in-Token : goal.loop-at-preserved-in-Token
 loop-at-preserved-in-Token c =
     let g = goal.at.loop-at-preserved-in-Token c in
-    let t = at_turn g.After-found_at in
+    let t = at_turn g.After-next_at in
     let few = (token_asked t c.requires.2 (is_token g.After-ends-f)).1 in
     let u = c.args.t.tables in
     let opened : Places u.rows.now u.places.now u.facts.now u.members.now c.loop-k.begun c.ends-f.result.found c.in-Token.x.0 c.loop-at.at c.shown_end-shown.result c.if-t-ne0.m c.loop-k.o c.if-t-ne0.numbers c.if-t-ne0.bytes c.in-Ok.r c.if-opens.o c.placed.new.begun c.placed.new.numbers c.placed.new.bytes =
@@ -141,14 +151,14 @@ loop-at-preserved-in-Token c =
     rw (c.taken-line.ensures.0, c.taken-line.ensures.1) (going_token t (is_token g.After-ends-f) c.shown_end-shown.ensures c.ends-f.ensures (joined g.Joined-starts-eq0) s)
 
 pub returns-in-Err-end_tag : goal.returns-in-Err-end_tag
-returns-in-Err-end_tag c = end_tag_refuses (at_turn (goal.at.returns-in-Err-end_tag c).After-found_at) (c.in_ok-p.was ∙ ap Ok c.in-End.is) c.in-Err-end_tag.ensures c.at-in-Err-end_tag.ensures
+returns-in-Err-end_tag c = end_tag_refuses (at_turn (goal.at.returns-in-Err-end_tag c).After-next_at) c.in-End.is c.in-Err-end_tag.ensures c.at-in-Err-end_tag.ensures
 
 pub loop-at-preserved-in-End : goal.loop-at-preserved-in-End
 loop-at-preserved-in-End c =
-    rw (c.taken-line-in-End.ensures.0, c.taken-line-in-End.ensures.1) (going_end (at_turn (goal.at.loop-at-preserved-in-End c).After-found_at) (c.in_ok-p.was ∙ ap Ok c.in-End.is) c.in-Ok-end_tag.ensures)
+    rw (c.taken-line-in-End.ensures.0, c.taken-line-in-End.ensures.1) (going_end (at_turn (goal.at.loop-at-preserved-in-End c).After-next_at) c.in-End.is c.in-Ok-end_tag.ensures)
 
 pub loop-at-preserved : goal.loop-at-preserved
-loop-at-preserved c = rw c.marked-line.ensures.0 (going_passed (at_turn (goal.at.loop-at-preserved c).After-found_at) (c.in_ok-p.was ∙ ap Ok c.in-Passed.is) c.marked-line.ensures.1)
+loop-at-preserved c = rw c.marked-line.ensures.0 (going_passed (at_turn (goal.at.loop-at-preserved c).After-next_at) c.in-Passed.is c.marked-line.ensures.1)
 
 pub returns-in-Ok-finish : goal.returns-in-Ok-finish
 returns-in-Ok-finish c = end_counts c.loop-at.invariant (omega (arith, c.loop-at-test.false)) c.in-Ok-finish.ensures c.requires.2
