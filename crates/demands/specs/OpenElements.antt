@@ -22,8 +22,9 @@
 --   `infer_end` once for each end that is left out; then `end`. At the document's end it calls `finish` of
 --   closing, which calls `end_until` likewise.
 -- * `is_over` and `next_start` are handed the open elements and return none. What else `events_of` calls is
---   not handed them: `found_at` of pieces, which gets how many are open, the current element and the place
---   taken last in it; `starts_of` of ways; and the functions of record_ends and attribute_events.
+--   not handed them: `found_at` of pieces; `next_at` of blanks, which gets how many are open, the current
+--   element and the place taken last in it; `starts_of` of ways; and those of record_ends and
+--   attribute_events.
 use Rattle.std.specs.Prelude.{ℕ, suc, Result, Ok, Err, ◌≤◌, ◌<◌, ◌≡◌, refl, Bool, true, false, ◌&&◌, List, [], ◌∷◌, ◌++◌, length, eqb}
 use Rattle.std.proofs.Common.{sym, ◌∙◌, ap, ap₂, subst, arith}
 use contract.Lifetimes.{Lfts}
