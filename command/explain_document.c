@@ -335,6 +335,20 @@ static void add_needed_before(const struct fault *f, uint32_t token, struct list
             add_start(f, list, k);
 }
 
+/* The token has no place behind the child j of this open element, before which it had one: the child is the
+ * same already, or stands in place of it, or belongs behind it. */
+static void put_late(const struct fault *f, struct open o, uint32_t token, uint32_t j)
+{
+    struct child c = f->q->children[j];
+    int is_there = c.element == token, is_before = !is_there && may_follow_in(f->q, j, token, c.element);
+    put(f, is_before ? "in " : "");
+    put_open(f, o);
+    put(f, is_before ? " it belongs before " : is_there ? " has its " : " has ");
+    put_name(f, c.element);
+    put(f, is_before ? ", which is at " : is_there ? " already, at " : " instead, at ");
+    put_place(f, f->document, c.offset);
+}
+
 /* The token is in the content model of this open element, but may not come there now: it has come already, it
  * belongs before what has come, or another is missing before it. 0 if it is none of these. */
 static int put_misplaced(const struct fault *f, struct open o, uint32_t token)
@@ -351,12 +365,8 @@ static int put_misplaced(const struct fault *f, struct open o, uint32_t token)
     }
     if (!is_found)
         return 0;
-    put(f, list.count ? " may be missing before it; " : is_there ? ": " : ": in ");
-    put_open(f, o);
-    put(f, is_there ? " has its " : " it belongs before ");
-    put_name(f, f->q->children[j].element);
-    put(f, is_there ? " already, at " : ", which is at ");
-    put_place(f, f->document, f->q->children[j].offset);
+    put(f, list.count ? " may be missing before it; " : ": ");
+    put_late(f, o, token, j);
     return 1;
 }
 
@@ -373,14 +383,28 @@ static void put_end_meant(const struct fault *f, const struct open *open, int de
         put(f, "; %s may be meant", tag);
 }
 
+/* The element of the type that has this one in its content model: an open one, the innermost first, or else
+ * the first that is declared. 0 if there is none. */
+static uint32_t holder_of(const struct fault *f, const struct open *open, int depth, uint32_t element)
+{
+    struct open o = { 0, 0, f->q->event_count, 0 };
+    int i;
+    for (i = depth - 1; i >= 0; i--)
+        if (begin_small(f->q, open[i]) && is_in_model(f->q, element))
+            return open[i].element;
+    while (o.element++ < f->q->declared)
+        if (begin_small(f->q, o) && is_in_model(f->q, element))
+            return o.element;
+    return 0;
+}
+
 /* A name that is never declared may come here, and looks like a slip for the token or for #PCDATA. 0 if there
  * is none. */
 static int put_slip(const struct fault *f, const struct open *open, int depth, uint32_t token)
 {
     char name[SGML_MOST_NAMELEN + 1], meant[SGML_MOST_NAMELEN + 1] = "PCDATA";
     struct question *q = f->q;
-    uint32_t k;
-    int i;
+    uint32_t k, holder;
     if (token)
         copy_name(q, token, meant);
     for (k = q->declared + 1; k <= q->elements; k++) {
@@ -389,14 +413,14 @@ static int put_slip(const struct fault *f, const struct open *open, int depth, u
         add_tag(q, q->start, TAIL, "<", k);
         if ((strcmp(name, meant) && !is_close(name, meant)) || !may_come(q, q->start, 0))
             continue;
-        for (i = depth - 1; i >= 0; i--)
-            if (begin_small(q, open[i]) && is_in_model(q, k)) {
-                put(f, ": the content model of ");
-                put_name(f, open[i].element);
-                put(f, " in %s has %s, which is never declared; %s%s may be meant", f->type->name, name,
-                    token ? "" : "#", meant);
-                return 1;
-            }
+        holder = holder_of(f, open, depth, k);
+        if (!holder)
+            continue;
+        put(f, ": the content model of ");
+        put_name(f, holder);
+        put(f, " in %s has %s, which is never declared; %s%s may be meant", f->type->name, name,
+            token ? "" : "#", meant);
+        return 1;
     }
     return 0;
 }
@@ -407,8 +431,6 @@ static int put_in_the_way(const struct fault *f, const struct open *open, int de
     struct question *q = f->q;
     struct open inner = open[depth - 1];
     int i;
-    if (put_slip(f, open, depth, token))
-        return 1;
     for (i = depth - 1; i >= 0; i--) {
         if (!begin_small(q, open[i]) || !is_in_model(q, token))
             continue;
@@ -438,6 +460,29 @@ static void put_stuck(const struct fault *f, struct open o, int is_incomplete, i
     put(f, is_incomplete ? " is not complete" : " is open");
     if (is_incomplete && before[0] == ':')
         put_needed(f, o, needed);
+}
+
+/* The few elements in which the token may stand at all, if none of them is open. */
+static void put_homes(const struct fault *f, const struct open *open, int depth, uint32_t token)
+{
+    struct open o = { 0, 0, f->q->event_count, 0 };
+    struct list list = { "", 0, 0 };
+    char name[SGML_MOST_NAMELEN + 1];
+    int i;
+    while (o.element++ < f->q->declared) {
+        if (!begin_small(f->q, o) || !is_in_model(f->q, token))
+            continue;
+        for (i = 0; i < depth; i++)
+            if (open[i].element == o.element)
+                return;
+        copy_name(f->q, o.element, name);
+        add(&list, name);
+    }
+    if (!list.count || list.count > 4)
+        return;
+    put(f, "; ");
+    put_name(f, token);
+    put_list(f, " belongs in ", &list);
 }
 
 /* What is missing before the token, and which element is not complete or not ended. */
@@ -472,6 +517,8 @@ static void put_missing(const struct fault *f, const struct open *open, int dept
         put_open(f, open[depth - 1]);
         put(f, depth > 1 ? " or around it" : "");
     }
+    if (token && !list.count)
+        put_homes(f, open, depth, token);
 }
 
 void not_allowed_here(const struct fault *f)
@@ -484,7 +531,8 @@ void not_allowed_here(const struct fault *f)
         put(f, "<%s> is not allowed here", tag_name(f, f->document, f->at));
     else
         put(f, "data is not allowed here");
-    if (depth <= 0 || !f->q->event_count || !put_in_the_way(f, open, depth, token))
+    if (!put_slip(f, open, depth, token) &&
+        (depth <= 0 || !f->q->event_count || !put_in_the_way(f, open, depth, token)))
         put_missing(f, open, depth, token, &needed);
     put_allowed(f, open, depth, &needed);
 }

@@ -44,6 +44,11 @@ says slip.type "d.sgm:1:19: </NAME> comes, but NAME (begun at 1:13) is not compl
 sed -i 's/(PCDATA/(#PCDATA/' slip.type
 says slip.type "d.sgm:1:24: <QTY> is not allowed here: the content model of ITEM in slip.type has QTTY, which is never declared; QTY may be meant; here may come <QTTY> (never declared), data or </NAME> [12]" <<<'<LIST><ITEM><NAME>clamp<QTY>4'
 says slip.type "d.sgm:1:24: the element QTTY is not declared in slip.type, though it is used in a content model there [10]" <<<'<LIST><ITEM><NAME>clamp<QTTY>4'
+# the element whose model has the slip has not begun
+sed 's/NUMBER  O O (#/NUMBER  O O (/' par.type >slip.type
+says slip.type "d.sgm:1:9: data is not allowed here: the content model of NUMBER in slip.type has PCDATA, which is never declared; #PCDATA may be meant; here may come <NUMBER> or <PCDATA> (never declared) [12]" <<<'<DRAWER>1<ITEM>clamp'
+sed 's/(DRAWER+)/(DAWER+)/' par.type >slip.type
+says slip.type "d.sgm:1:1: <DRAWER> is not allowed here: the content model of CABINET in slip.type has DAWER, which is never declared; DRAWER may be meant; here may come <CABINET> or <DAWER> (never declared) [12]" <<<'<DRAWER>1<ITEM>clamp'
 says dental.type "d.sgm:1:1: the element CATALGO is not declared in dental.type; is it CATALOG? [10]" <<<'<CATALGO>'
 check "no warning where all names are declared" test "$(wc -l <said)" -eq 1
 
@@ -83,6 +88,9 @@ echo "the element that is in the way, and what is missing in it"
 says dental.type "d.sgm:6:60: <QTY> is not allowed here: ITEM (begun at 6:1) has its QTY already, at 6:55; here may come <KIT>, <ITEM>, <UNIT>, <NOTE>, data or </QTY> [12]" < <(with '<QTY>' '<QTY><QTY>')
 says dental.type "d.sgm:6:62: <QTY> is not allowed here: ITEM (begun at 6:1) has its QTY already, at 6:55; </QTY> may be meant; here may come <KIT>, <ITEM>, <UNIT>, <NOTE>, data or </QTY> [12]" < <(with '12<UNIT>' '12<QTY>')
 says dental.type "d.sgm:6:55: data is not allowed here: <QTY> may be missing before it; STERILE is EMPTY and holds no data; here may come <QTY> [12]" < <(without '<QTY>')
+sed 's/(SUPPLIER,DATE)/(SUPPLIER|DATE)/' dental.type >either.type
+says either.type "d.sgm:3:1: <DATE> is not allowed here: HEAD (begun at 2:1) has SUPPLIER instead, at 2:7; here may come <GROUP>, data or </SUPPLIER> [12]" <dental.sgm
+says par.type "d.sgm:1:10: <QTY> is not allowed here, in NUMBER (inferred at 1:9) or around it; QTY belongs in ITEM; here may come <DRAWER>, <ITEM>, data or </NUMBER> [12]" <<<'<DRAWER>2<QTY>12'
 says dental.type "d.sgm:6:51: <STERILE> is not allowed here: in ITEM (begun at 6:1) it belongs before QTY, which is at 6:46; here may come <KIT>, <ITEM>, <UNIT>, <NOTE>, data or </QTY> [12]" < <(with '<STERILE><QTY>' '<QTY><STERILE>')
 says dental.type "d.sgm:6:55: <UNIT> is not allowed here: <QTY> is missing before it in ITEM (begun at 6:1); here may come <QTY> [12]" < <(without '<QTY>12')
 printf '%s\n' '<!ELEMENT A - - (NAME,QTY)+>' '<!ELEMENT NAME - O (#PCDATA)>' '<!ELEMENT QTY - O (#PCDATA)>' >pairs.type
