@@ -503,6 +503,8 @@ static void put_missing(const struct fault *f, const struct open *open, int dept
         put(f, "%sthe document element is ", list.count ? "; " : ": ");
         put_name(f, 1);
         put(f, ", the first that %s declares", f->type->name);
+        if (token && !list.count)
+            put_homes(f, open, depth, token);
     }
     if (depth <= 0)
         return;

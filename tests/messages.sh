@@ -90,6 +90,7 @@ says dental.type "d.sgm:6:62: <QTY> is not allowed here: ITEM (begun at 6:1) has
 says dental.type "d.sgm:6:55: data is not allowed here: <QTY> may be missing before it; STERILE is EMPTY and holds no data; here may come <QTY> [12]" < <(without '<QTY>')
 sed 's/(SUPPLIER,DATE)/(SUPPLIER|DATE)/' dental.type >either.type
 says either.type "d.sgm:3:1: <DATE> is not allowed here: HEAD (begun at 2:1) has SUPPLIER instead, at 2:7; here may come <GROUP>, data or </SUPPLIER> [12]" <dental.sgm
+says par.type "d.sgm:1:1: <ITEM> is not allowed here: the document element is CABINET, the first that par.type declares; ITEM belongs in DRAWER; here may come <CABINET> or <DRAWER> [12]" <<<'<ITEM>clamp'
 says par.type "d.sgm:1:10: <QTY> is not allowed here, in NUMBER (inferred at 1:9) or around it; QTY belongs in ITEM; here may come <DRAWER>, <ITEM>, data or </NUMBER> [12]" <<<'<DRAWER>2<QTY>12'
 says dental.type "d.sgm:6:51: <STERILE> is not allowed here: in ITEM (begun at 6:1) it belongs before QTY, which is at 6:46; here may come <KIT>, <ITEM>, <UNIT>, <NOTE>, data or </QTY> [12]" < <(with '<STERILE><QTY>' '<QTY><STERILE>')
 says dental.type "d.sgm:6:55: <UNIT> is not allowed here: <QTY> is missing before it in ITEM (begun at 6:1); here may come <QTY> [12]" < <(without '<QTY>12')
