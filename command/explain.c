@@ -141,10 +141,10 @@ static void put_declaration(const struct fault *f)
     size_t k;
     put(f, "<!%s is not supported", keyword);
     if (f->input == f->document) {
-        put(f,
-            !strcmp(keyword, "DOCTYPE") ? ": the declarations are in the type file, %s"
-                                        : ": a document has tags, data and comments <!-- -->%s",
-            f->type->name);
+        if (!strcmp(keyword, "DOCTYPE") || !strcmp(keyword, "ELEMENT") || !strcmp(keyword, "ATTLIST"))
+            put(f, ": the declarations are in the type file, %s", f->type->name);
+        else
+            put(f, ": a document has tags, data and comments <!-- .. -->");
         put_leave_out(f, form_end(f->input, f->at));
         return;
     }
@@ -233,7 +233,8 @@ static void left_out(const struct fault *f)
     } else if (byte == '(') {
         put(f, "a declaration of several elements at once is not supported; declare each by itself");
     } else if (byte == '[') {
-        put(f, "a data tag group [ is not supported");
+        put(f, is_in_list(f) ? "\"[\" in a group of tokens is not supported"
+                             : "a data tag group [ is not supported");
     } else if (byte == '-' || byte == '+') {
         put(f, "exceptions %c(..) after the content are not supported", byte);
     } else {

@@ -136,6 +136,11 @@ says separator.type 'separator.type:1:37: the type file ends within the declarat
 printf '<!ELEMENT A - O (B *)>' >separator.type
 says separator.type 'separator.type:1:20: "*" is not allowed here; expected: ",", "|", "&" or ")" [4]' <dental.sgm
 
+says dental.type "d.sgm:1:1: <!ELEMENT is not supported: the declarations are in the type file, dental.type; leave out the 22 bytes from 1:1 to the \">\" at 1:22 [5]" <<<'<!ELEMENT A - O EMPTY><CATALOG>'
+says dental.type 'd.sgm:1:1: <!ENTITY is not supported: a document has tags, data and comments <!-- .. -->; leave out the 15 bytes from 1:1 to the ">" at 1:15 [5]' <<<'<!ENTITY a "b"><CATALOG>'
+printf '%s\n' '<!ELEMENT A - O EMPTY>' '<!ATTLIST A X ([a]) #IMPLIED>' >tokens.type
+says tokens.type 'tokens.type:2:16: "[" in a group of tokens is not supported [5]' <<<'<A>'
+
 echo "a document type declaration"
 says stock.type 'd.sgm:1:1: <!DOCTYPE is not supported: the declarations are in the type file, stock.type; leave out the 38 bytes from 1:1 to the ">" at 2:21 [5]' <<'DOC'
 <!DOCTYPE LIST [
