@@ -79,6 +79,8 @@ held "a crate that is not proved" said 1 "$out/fails.said" "$out/fails"
 echo "rt: there is no such command" >"$out/wrong.said"
 echo 'echo "rt: there is no such command" >&2; exit 2' >"$out/wrong"
 held "a command that does not run" said 2 "$out/wrong.said" "$out/wrong"
+held "a machine without rt" test "$(PATH=/usr/bin:/bin .ci/progress text no-such-rt lib 2>&1)" = \
+    "no-such-rt is not on the PATH; README.md says under Building where it comes from, and what can be done without it"
 if needs script bsdutils "what is said on a terminal"; then
     script -qec ".ci/progress text sh $PWD/$out/proves" /dev/null </dev/null | tr '\r' '\n' >"$out/lines"
     sed 's/^.\[K//; /^$/d' "$out/lines" >"$out/terminal"
