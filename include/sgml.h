@@ -419,7 +419,7 @@ SGML_LOOK_AT_ANSWER uint32_t sgml_attributes(const uint8_t *type, size_t type_le
  *   type, type_len          the type file
  *   document, document_len  the document
  *   buffer, buffer_len      lent for the events: 32-bit numbers of four bytes each, low byte first, as above.
- *                           SGML_MOST_EVENTS tells how much is always enough, and why to lend less.
+ *                           SGML_MOST_EVENTS says how much is always enough, and why to lend less.
  *   answer                  receives the SGML_ANSWER_SIZE numbers of the answer
  *   name_length             largest length of a name, as above
  *   edition                 the rule for record ends: SGML_FIRST_EDITION or SGML_SECOND_EDITION
