@@ -66,6 +66,8 @@ void undeclared(const struct fault *f)
     put(f, "the element %s is not declared in %s", name, f->type->name);
     if (element_named(f->q, name)) {
         put(f, ", though it is used in a content model there");
+        add_near_elements(f, name, &list);
+        put_list(f, "; declared is ", &list);
         return;
     }
     add_near_elements(f, name, &list);

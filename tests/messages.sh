@@ -43,7 +43,7 @@ slip.type:3:21: warning: PCDATA is used in a content model, but never declared; 
 says slip.type "d.sgm:1:19: </NAME> comes, but NAME (begun at 1:13) is not complete: <PCDATA> (never declared) is missing [13]" <<<'<LIST><ITEM><NAME></NAME>'
 sed -i 's/(PCDATA/(#PCDATA/' slip.type
 says slip.type "d.sgm:1:24: <QTY> is not allowed here: the content model of ITEM in slip.type has QTTY, which is never declared; QTY may be meant; here may come <QTTY> (never declared), data or </NAME> [12]" <<<'<LIST><ITEM><NAME>clamp<QTY>4'
-says slip.type "d.sgm:1:24: the element QTTY is not declared in slip.type, though it is used in a content model there [10]" <<<'<LIST><ITEM><NAME>clamp<QTTY>4'
+says slip.type "d.sgm:1:24: the element QTTY is not declared in slip.type, though it is used in a content model there; declared is QTY [10]" <<<'<LIST><ITEM><NAME>clamp<QTTY>4'
 # the element whose model has the slip has not begun
 sed 's/NUMBER  O O (#/NUMBER  O O (/' par.type >slip.type
 says slip.type "d.sgm:1:9: data is not allowed here: the content model of NUMBER in slip.type has PCDATA, which is never declared; #PCDATA may be meant; here may come <NUMBER> or <PCDATA> (never declared) [12]" <<<'<DRAWER>1<ITEM>clamp'
