@@ -1,19 +1,10 @@
 /* ask.c - questions to the library about a refused input. */
 #include "ask.h"
-#include <stdlib.h>
-#include <string.h>
 
 enum {
-    TAIL = 8192, /* bytes put behind a beginning */
-    DEPTH = 8,  /* start tags and data put there, where all are tried */
-    STEPS = 40, /* and where one is tried */
-    WORK = 40 * 1000 * 1000 /* bytes read for that at most, twice: a second or so */
+    DEPTH = 8, /* start tags and data put behind a beginning, where all are tried */
+    STEPS = 40 /* and where one is tried */
 };
-
-uint32_t name_limit = SGML_NAMELEN, edition = SGML_FIRST_EDITION;
-
-/* Bytes read since a tail is sought; judging a byte of a type takes some five times as long as reading one of a document. */
-static size_t work;
 
 /* What was answered to a beginning with a tail. Nothing is lent, so what would be accepted is "no room". */
 struct reply {
@@ -31,64 +22,182 @@ static struct reply reply_of(uint32_t number, const uint32_t *answer)
 static struct input joined(const struct input *input, size_t cut, const char *tail, uint8_t *room)
 {
     struct input whole = { input->name, room, cut + strlen(tail) };
-    memcpy(room, input->bytes, cut);
+    if (cut)
+        memmove(room, input->bytes, cut);
     memcpy(room + cut, tail, strlen(tail));
     return whole;
 }
 
-static struct reply ask_type(const struct input *type, size_t cut, const char *tail)
+static struct reply ask_type(struct question *q, size_t cut, const char *tail)
 {
-    static uint8_t room[SGML_TYPE_LIMIT + TAIL];
-    struct input whole = joined(type, cut, tail, room);
+    struct input whole = joined(q->type, cut, tail, q->room);
     uint32_t answer[SGML_ANSWER_SIZE];
-    return reply_of(sgml_judge(whole.bytes, whole.length, NULL, 0, answer, name_limit, edition), answer);
+    q->work += QUESTION + 5 * whole.length;
+    return reply_of(sgml_judge(whole.bytes, whole.length, NULL, 0, answer, q->name_limit, q->edition),
+                    answer);
 }
 
-static struct reply ask_document(const struct input *type, const struct input *document, size_t cut, const char *tail)
+/* Judging a byte of a type takes some five times as long as reading one of a document. */
+static struct reply ask(struct question *q, const struct input *type, struct input document)
 {
-    static uint8_t room[SGML_DOCUMENT_LIMIT + TAIL];
-    struct input whole = joined(document, cut, tail, room);
     uint32_t answer[SGML_ANSWER_SIZE];
-    work += 5 * type->length + whole.length;
-    return reply_of(sgml_read(type->bytes, type->length, whole.bytes, whole.length, NULL, 0, answer, name_limit, edition), answer);
+    q->work += QUESTION + 5 * type->length + document.length;
+    return reply_of(sgml_read(type->bytes, type->length, document.bytes, document.length, NULL, 0, answer,
+                              q->name_limit, q->edition),
+                    answer);
+}
+
+static struct reply ask_document(struct question *q, size_t cut, const char *tail)
+{
+    return ask(q, &q->asked, joined(q->document, cut, tail, q->room));
+}
+
+static void judge(struct question *q, struct input type)
+{
+    uint32_t answer[SGML_ANSWER_SIZE];
+    q->attributes =
+        sgml_attributes(type.bytes, type.length, q->lists, sizeof q->lists, answer, q->name_limit, q->edition)
+            ? 0
+            : answer[SGML_ANSWER_COUNT];
+    q->elements =
+        sgml_judge(type.bytes, type.length, q->records, sizeof q->records, answer, q->name_limit, q->edition)
+            ? 0
+            : answer[SGML_ANSWER_COUNT];
+}
+
+/* Declares a name for the question, if there is room. Its start tag may not be omitted: so nothing is
+ * inferred that was not before. */
+static void declare(struct question *q, const char *name)
+{
+    char text[SGML_MOST_NAMELEN + 32] = "<!ELEMENT ";
+    uint32_t before = q->elements;
+    struct input longer;
+    if (before == SGML_ELEMENT_LIMIT || q->asked.length + sizeof text > SGML_TYPE_LIMIT)
+        return;
+    append(text, sizeof text, name);
+    append(text, sizeof text, " - O EMPTY>");
+    longer = joined(&q->asked, q->asked.length, text, q->asked_room);
+    judge(q, longer);
+    if (q->elements == before + 1)
+        q->asked = longer;
+    else
+        judge(q, q->asked);
+}
+
+/* Declares each name in a content model that has no declaration. */
+static void declare_missing(struct question *q)
+{
+    char name[SGML_MOST_NAMELEN + 1];
+    uint32_t k;
+    for (k = 1; k <= q->declared; k++) {
+        size_t at, end = model_of(q, k, &at);
+        for (end += at; at < end;) {
+            size_t length = word_length(&q->asked, at);
+            if (length && q->asked.bytes[at] != '#') {
+                fold(&q->asked, at, length, name, sizeof name);
+                if (!element_named(q, name))
+                    declare(q, name);
+            }
+            at += length ? length : 1;
+        }
+    }
 }
 
 void begin_question(struct question *q, const struct input *type, const struct input *document, size_t cut)
 {
-    uint32_t answer[SGML_ANSWER_SIZE];
     q->type = type;
     q->document = document;
     q->cut = cut;
-    q->attributes = sgml_attributes(type->bytes, type->length, q->lists, sizeof q->lists, answer, name_limit, edition) ? 0 : answer[SGML_ANSWER_COUNT];
-    q->elements = sgml_judge(type->bytes, type->length, q->records, sizeof q->records, answer, name_limit, edition) ? 0 : answer[SGML_ANSWER_COUNT];
+    q->event_count = 0;
+    q->work = 0;
+    q->is_form_known = 0;
+    q->asked = *type;
+    judge(q, *type);
+    q->declared = q->elements;
+    if (q->declared && type->length <= SGML_TYPE_LIMIT) {
+        q->asked = joined(type, type->length, "", q->asked_room);
+        declare_missing(q);
+    }
 }
 
-/* 3 to 8, 10, 20 and 22 come by position, and before 25, 9 and 19: so a word is unfit exactly if one of them stands at it or before it. */
-int may_stand(const struct input *type, size_t cut, const char *tail, size_t before)
+void judge_beginning(struct question *q, size_t cut, const char *tail)
 {
-    struct reply r = ask_type(type, cut, tail);
-    return r.number == SGML_ERR_NO_ROOM || r.number == SGML_ERR_AMBIGUOUS || r.number == SGML_ERR_REPEATED ||
-           (r.number >= SGML_ERR_NAME_TOO_LONG && r.position > cut + before);
+    q->asked = joined(q->type, cut, tail, q->asked_room);
+    judge(q, q->asked);
+    q->declared = q->elements;
 }
 
-int ends_within(const struct input *type, const struct input *document, size_t cut)
+/* 3 to 8, 10, 20 and 22 come by position, and before 25, 9 and 19. A word is unfit if 3 to 6 stands at it, or
+ * any of them before it; the others say of a word that may stand there that it is the wrong one. */
+int may_stand(struct question *q, size_t cut, const char *tail, size_t before)
 {
-    struct reply r = document ? ask_document(type, document, cut, "") : ask_type(type, cut, "");
+    struct reply r = ask_type(q, cut, tail);
+    if (r.number == SGML_ERR_NO_ROOM || r.number == SGML_ERR_AMBIGUOUS || r.number == SGML_ERR_REPEATED)
+        return 1;
+    return r.number >= SGML_ERR_NAME_TOO_LONG && r.position >= cut + before &&
+           (r.position > cut + before || r.number > SGML_ERR_QUANTITY);
+}
+
+int ends_within(struct question *q, const struct input *input, size_t cut)
+{
+    struct reply r = input == q->document ? ask_document(q, cut, "") : ask_type(q, cut, "");
     return r.number == SGML_ERR_MALFORMED && r.position == cut;
 }
 
-/* The document's tokens are settled in turn: a token may come exactly if nothing is refused at it or before it. */
-int may_come(const struct question *q, const char *tail, size_t before)
+/* "[" in place of a name is refused there by number 5 exactly if a content token stands there, and not a word
+ * of a declaration or of a comment. */
+int is_token(struct question *q, size_t at, size_t length)
 {
-    struct reply r = ask_document(q->type, q->document, q->cut, tail);
+    uint32_t answer[SGML_ANSWER_SIZE];
+    uint8_t *changed = q->room;
+    memcpy(changed, q->type->bytes, at);
+    changed[at] = '[';
+    memcpy(changed + at + 1, q->type->bytes + at + length, q->type->length - at - length);
+    return sgml_judge(changed, q->type->length - length + 1, NULL, 0, answer, q->name_limit, q->edition) ==
+               SGML_ERR_LEFT_OUT &&
+           answer[SGML_ANSWER_POSITION] == at;
+}
+
+/* The document's tokens are settled in turn: a token may come exactly if nothing is refused at it or before
+ * it. */
+int may_come(struct question *q, const char *tail, size_t before)
+{
+    struct reply r = ask_document(q, q->cut, tail);
     return r.number == SGML_ERR_NO_ROOM || (r.input == SGML_IN_DOCUMENT && r.position > q->cut + before);
 }
 
-/* 3, 4 and 5 come before everything else in a tag, by position. */
-int may_go_on(const struct question *q, const char *tail)
+/* Of an end tag 11 is looked for before 13 and 14. */
+int is_open_after(struct question *q, const char *tail, size_t before)
 {
-    struct reply r = ask_document(q->type, q->document, q->cut, tail);
-    return r.input != SGML_IN_DOCUMENT || r.position > q->cut || (r.number != SGML_ERR_NAME_TOO_LONG && r.number != SGML_ERR_MALFORMED && r.number != SGML_ERR_LEFT_OUT);
+    struct reply r = ask_document(q, q->cut, tail);
+    return may_come(q, tail, before) || (r.position == q->cut + before && (r.number == SGML_ERR_INCOMPLETE ||
+                                                                           r.number == SGML_ERR_END_MISSING));
+}
+
+/* 3, 4 and 5 come before everything else in a tag, by position. */
+int may_go_on(struct question *q, const char *tail)
+{
+    struct reply r = ask_document(q, q->cut, tail);
+    return r.input != SGML_IN_DOCUMENT || r.position > q->cut ||
+           (r.number != SGML_ERR_NAME_TOO_LONG && r.number != SGML_ERR_MALFORMED &&
+            r.number != SGML_ERR_LEFT_OUT);
+}
+
+/* An attribute that is given twice is refused by 20 at the second, which comes before 22 and 21. */
+int has_attribute(struct question *q, size_t at, const char *attribute, size_t end)
+{
+    struct input whole = joined(q->document, at, attribute, q->room);
+    struct reply r;
+    memcpy(q->room + whole.length, q->document->bytes + at, end - at);
+    whole.length += end - at;
+    r = ask(q, &q->asked, whole);
+    return r.number == SGML_ERR_ATTRIBUTE && r.position > at + strlen(attribute);
+}
+
+void copy_name(const struct question *q, uint32_t element, char name[SGML_MOST_NAMELEN + 1])
+{
+    struct sgml_record r = sgml_record_at(q->records, element - 1);
+    fold(&q->asked, r.name_offset, r.name_length, name, SGML_MOST_NAMELEN + 1);
 }
 
 uint32_t element_named(const struct question *q, const char *name)
@@ -96,37 +205,34 @@ uint32_t element_named(const struct question *q, const char *name)
     char other[SGML_MOST_NAMELEN + 1];
     uint32_t k;
     for (k = 1; k <= q->elements; k++) {
-        sgml_copy_name(q->type->bytes, q->records, k, other, sizeof other);
+        copy_name(q, k, other);
         if (!strcmp(name, other))
             return k;
     }
     return 0;
 }
 
-/* Appends a required attribute with a value that fits it: of a group the first token, which only separators part from the "(". */
-static void add_attribute(const struct question *q, char *text, size_t room, struct sgml_attribute a)
+/* Of a group the first token fits, which only separators part from the "(". */
+void add_attribute(const struct question *q, char *text, size_t room, struct sgml_attribute a)
 {
     char name[SGML_MOST_NAMELEN + 1], value[SGML_MOST_NAMELEN + 1] = "A";
-    const uint8_t *token = q->type->bytes + a.group_offset + 1;
-    size_t n = 0;
+    size_t at = a.group_offset + 1, n = 0;
     if (a.value == SGML_NUMBER)
-        strcpy(value, "1");
+        value[0] = '1';
     if (a.value == SGML_TOKENS) {
-        while (strchr(" \t\r\n", *token))
-            token++;
-        while (n < SGML_MOST_NAMELEN && !strchr(" \t\r\n,|&)", token[n])) {
-            value[n] = (char)token[n];
-            n++;
-        }
+        while (is_separator(byte_at(&q->asked, at)))
+            at++;
+        for (n = 0; n < SGML_MOST_NAMELEN && is_name_byte(byte_at(&q->asked, at + n)); n++)
+            value[n] = (char)q->asked.bytes[at + n];
         value[n] = 0;
     }
-    sgml_copy_attribute_name(q->type->bytes, a, name, sizeof name);
+    sgml_copy_attribute_name(q->asked.bytes, a, name, sizeof name);
     if (strlen(text) + strlen(name) + strlen(value) + 6 <= room) {
-        strcat(text, " ");
-        strcat(text, name);
-        strcat(text, "=\"");
-        strcat(text, value);
-        strcat(text, "\"");
+        append(text, room, " ");
+        append(text, room, name);
+        append(text, room, "=\"");
+        append(text, room, value);
+        append(text, room, "\"");
     }
 }
 
@@ -143,17 +249,17 @@ void add_start_tag(const struct question *q, char *text, size_t room, uint32_t e
         if (a.element == element && a.preset == SGML_REQUIRED)
             add_attribute(q, text, room - 1, a);
     }
-    strcat(text, ">");
+    append(text, room, ">");
 }
 
 void add_tag(const struct question *q, char *text, size_t room, const char *before, uint32_t element)
 {
     char name[SGML_MOST_NAMELEN + 1];
-    sgml_copy_name(q->type->bytes, q->records, element, name, sizeof name);
+    copy_name(q, element, name);
     if (strlen(text) + strlen(before) + strlen(name) + 2 <= room) {
-        strcat(text, before);
-        strcat(text, name);
-        strcat(text, ">");
+        append(text, room, before);
+        append(text, room, name);
+        append(text, room, ">");
     }
 }
 
@@ -163,18 +269,19 @@ static void add_token(const struct question *q, char *tail, uint32_t element)
     if (element)
         add_start_tag(q, tail, TAIL, element);
     else
-        strcat(tail, ".");
+        append(tail, TAIL, ".");
 }
 
-/* Appends the end tag that is missing: only that of the innermost element that does not end by itself may come. */
-static int add_end(const struct question *q, char *tail)
+/* Appends the end tag that is missing: only that of the innermost element that does not end by itself may
+ * come. */
+static int add_end(struct question *q, char *tail)
 {
     size_t before = strlen(tail);
     uint32_t k;
     for (k = 1; k <= q->elements; k++)
         if (!sgml_record_at(q->records, k - 1).end_tag) {
             add_tag(q, tail, TAIL, "</", k);
-            if (may_come(q, tail, before))
+            if (strlen(tail) > before && may_come(q, tail, before))
                 return 1;
             tail[before] = 0;
         }
@@ -182,40 +289,48 @@ static int add_end(const struct question *q, char *tail)
 }
 
 /* Appends the end tags that are missing, and says what is wrong then. */
-static uint32_t ended(const struct question *q, char *tail)
+static uint32_t ended(struct question *q, char *tail)
 {
     uint32_t number;
     do
-        number = ask_document(q->type, q->document, q->cut, tail).number;
-    while (number == SGML_ERR_END_MISSING && work < WORK && strlen(tail) + SGML_MOST_NAMELEN + 4 < TAIL && add_end(q, tail));
+        number = ask_document(q, q->cut, tail).number;
+    while (number == SGML_ERR_END_MISSING && q->work < WORK && add_end(q, tail));
     return number;
 }
 
+/* More content may make the document whole: an element is incomplete, or there is none. */
+static int is_continued(uint32_t number)
+{
+    return number == SGML_ERR_INCOMPLETE || number == SGML_ERR_NO_DOCUMENT;
+}
+
 /* Tries all tails of so many start tags and data. */
-static int is_completed_by(const struct question *q, char *tail, int depth)
+static int is_completed_by(struct question *q, char *tail, int depth)
 {
     uint32_t k, number = ended(q, tail);
     size_t before = strlen(tail);
-    if (number != SGML_ERR_INCOMPLETE || !depth)
+    if (!is_continued(number) || !depth)
         return number == SGML_ERR_NO_ROOM;
-    for (k = 0; k <= q->elements && work < WORK; k++) {
+    for (k = 0; k <= q->elements && q->work < WORK; k++) {
         add_token(q, tail, k);
-        if (may_come(q, tail, before) && is_completed_by(q, tail, depth - 1))
+        if (strlen(tail) > before && may_come(q, tail, before) && is_completed_by(q, tail, depth - 1))
             return 1;
         tail[before] = 0;
     }
     return 0;
 }
 
-/* Appends what was used least so far and, of these, what has the least content of its own. used[0] is for data. */
-static int add_content(const struct question *q, char *tail, uint32_t *used)
+/* Appends what was used least so far and, of these, what has the least content of its own. used[0] is for
+ * data. */
+static int add_content(struct question *q, char *tail, uint32_t *used)
 {
     size_t before = strlen(tail);
     uint32_t k, best = 0, cost = UINT32_MAX;
     for (k = 0; k <= q->elements; k++) {
-        uint32_t tokens = k ? sgml_record_at(q->records, k - 1).tokens : 0, own = (SGML_GRPGTCNT + 1) * used[k] + tokens;
+        uint32_t tokens = k ? sgml_record_at(q->records, k - 1).tokens : 0,
+                 own = (SGML_GRPGTCNT + 1) * used[k] + tokens;
         add_token(q, tail, k);
-        if (own < cost && may_come(q, tail, before)) {
+        if (own < cost && strlen(tail) > before && may_come(q, tail, before)) {
             best = k;
             cost = own;
         }
@@ -228,23 +343,23 @@ static int add_content(const struct question *q, char *tail, uint32_t *used)
     return 1;
 }
 
-/* Finds a tail that makes a whole document of what stands before the fault: a short one if there is one, else one that takes
- * everything in turn. There may be none, and not every one is found. */
-static int is_completed(const struct question *q, char *tail)
+/* Finds a tail that makes a whole document of what stands before the fault: a short one if there is one, else
+ * one that takes everything in turn. There may be none, and not every one is found. */
+static int is_completed(struct question *q, char *tail)
 {
     uint32_t used[SGML_ELEMENT_LIMIT + 1] = { 0 };
     int step;
-    work = 0;
-    for (step = 0; step <= DEPTH && work < WORK; step++) {
+    q->work = 0;
+    for (step = 0; step <= DEPTH && q->work < WORK; step++) {
         tail[0] = 0;
         if (is_completed_by(q, tail, step))
             return 1;
     }
-    work = 0;
+    q->work = 0;
     tail[0] = 0;
-    for (step = 0; step < STEPS && work < WORK && strlen(tail) + SGML_MOST_NAMELEN + 4 < TAIL; step++) {
+    for (step = 0; step < STEPS && q->work < WORK; step++) {
         uint32_t number = ended(q, tail);
-        if (number != SGML_ERR_INCOMPLETE)
+        if (!is_continued(number))
             return number == SGML_ERR_NO_ROOM;
         if (!add_content(q, tail, used))
             return 0;
@@ -252,48 +367,51 @@ static int is_completed(const struct question *q, char *tail)
     return 0;
 }
 
-uint8_t *events_of(const struct input *type, const struct input *document, uint32_t *answer)
+/* A refusal zeroes all that is lent: so little is lent first. */
+static int read_events(struct question *q, struct input document, uint32_t *answer)
 {
-    size_t most = SGML_EVENT_BYTES * SGML_MOST_EVENTS(document->length), room = 65536;
+    size_t room = q->events_length < 65536 ? q->events_length : 65536;
     for (;;) {
-        uint8_t *events = malloc(room);
-        if (!events)
-            return NULL;
-        if (sgml_read(type->bytes, type->length, document->bytes, document->length, events, room, answer, name_limit, edition) != SGML_ERR_NO_ROOM || room >= most)
-            return events;
-        free(events);
-        room = 4 * room < most ? 4 * room : most;
+        if (!sgml_read(q->asked.bytes, q->asked.length, document.bytes, document.length, q->events, room,
+                       answer, q->name_limit, q->edition))
+            return 1;
+        if (answer[SGML_ANSWER_NUMBER] != SGML_ERR_NO_ROOM || room == q->events_length)
+            return 0;
+        room = q->events_length / 4 < room ? q->events_length : 4 * room;
     }
 }
 
-/* The events before the fault do not depend on the tail. What the tail calls for stands at the cut or behind it, but for the end of
- * an EMPTY element, which stands just behind its tag. */
-size_t open_at(const struct question *q, struct open open[SGML_TAGLVL])
+int read_beginning(struct question *q, size_t cut)
 {
-    static uint8_t room[SGML_DOCUMENT_LIMIT + TAIL];
-    char tail[TAIL];
-    uint32_t answer[SGML_ANSWER_SIZE], k;
-    struct input whole;
-    uint8_t *events;
-    size_t depth = 0;
-    if (!is_completed(q, tail))
+    uint32_t answer[SGML_ANSWER_SIZE];
+    if (!read_events(q, joined(q->document, cut, "", q->room), answer))
         return 0;
-    whole = joined(q->document, q->cut, tail, room);
-    events = events_of(q->type, &whole, answer);
-    for (k = 0; events && k < answer[SGML_ANSWER_COUNT]; k++) {
-        struct sgml_event e = sgml_event_at(events, k);
+    q->event_count = answer[SGML_ANSWER_COUNT];
+    return 1;
+}
+
+/* The events before the fault do not depend on the tail. What the tail calls for stands at the cut or behind
+ * it, but for the end of an EMPTY element, which stands just behind its tag. */
+int open_at(struct question *q, struct open open[SGML_TAGLVL])
+{
+    uint32_t answer[SGML_ANSWER_SIZE], k;
+    int depth = 0;
+    q->event_count = 0;
+    if (!is_completed(q, q->tail) || !read_events(q, joined(q->document, q->cut, q->tail, q->room), answer))
+        return -1;
+    for (k = 0; k < answer[SGML_ANSWER_COUNT]; k++) {
+        struct sgml_event e = sgml_event_at(q->events, k);
         if (e.kind == SGML_KIND_ATTRIBUTE || e.kind == SGML_KIND_ATTRIBUTE_DEFAULTED)
             continue;
         if (e.offset >= q->cut && e.kind != SGML_KIND_END_OF_EMPTY)
             break;
+        q->event_count = k + 1;
         if (e.kind == SGML_KIND_START || e.kind == SGML_KIND_START_INFERRED) {
-            open[depth].element = e.element;
-            open[depth].offset = e.offset;
-            open[depth++].is_written = e.kind == SGML_KIND_START;
+            struct open o = { e.element, e.offset, k, e.kind == SGML_KIND_START };
+            open[depth++] = o;
         } else if (e.kind != SGML_KIND_DATA) {
             depth--;
         }
     }
-    free(events);
     return depth;
 }

@@ -1,78 +1,100 @@
 /* explain_type.c - refusals of a type file in words, and names in its models that are never declared. */
-#include "../examples/position.h"
-#include "explain.h"
 #include "fault.h"
-#include <ctype.h>
-#include <string.h>
 
-/* A word may stand at the fault. Behind another name it is parted from that by a space. */
-static int fits(const struct fault *f, const char *word)
+/* A word may stand at the fault, right there or behind a space. Behind another name it always needs one. */
+static int fits(const struct fault *f, const char *word, int is_spaced)
 {
-    char tail[96];
-    size_t parted = is_name_byte((uint8_t)word[0]) && f->at && is_name_byte(f->type->bytes[f->at - 1]);
-    snprintf(tail, sizeof tail, "%s%s ", parted ? " " : "", word);
-    return may_stand(f->type, f->at, tail, parted);
+    char tail[NAME_ROOM + 4] = "";
+    int is_joined = is_name_byte((uint8_t)word[0]) && f->at && is_name_byte(f->type->bytes[f->at - 1]);
+    size_t before = is_spaced || is_joined;
+    append(tail, sizeof tail, before ? " " : "");
+    append(tail, sizeof tail, word);
+    append(tail, sizeof tail, " ");
+    before += !strcmp(word, "-"); /* a "-" by itself, and not the first of two */
+    return may_stand(f->q, f->at, tail, before);
 }
 
-/* What may stand at a byte of the type file, by asking for each. Where a name may, any word does that is one. */
-static void put_fitting(const struct fault *f)
+/* What may stand at a byte of the type file, by asking for each. Where a name may, any word does that is one.
+ */
+static void add_fitting(const struct fault *f, struct list *list, int is_spaced)
 {
     static const char *const words[] = {
-        "-", "O", "EMPTY", "(", "#PCDATA", ",", "|", "&", ")", "CDATA", "NUMBER", "NAME", "#REQUIRED", "#IMPLIED", ">", "<!ELEMENT", "!ELEMENT", "ELEMENT",
-        "<!ATTLIST", "!ATTLIST", "ATTLIST", "<!-- -->",
+        "-",        "O",       "EMPTY",     "(",        "#PCDATA",   ",",        "|", "&",
+        ")",        "CDATA",   "NUMBER",    "NAME",     "#REQUIRED", "#IMPLIED", ">", "<!ELEMENT",
+        "!ELEMENT", "ELEMENT", "<!ATTLIST", "!ATTLIST", "ATTLIST",   "<!-- -->",
     };
-    struct list list = { "", 0, 0 };
-    int is_name = fits(f, "A");
+    int is_name = fits(f, "A", is_spaced);
     size_t k;
     if (is_name)
-        add(&list, "a name");
+        add(list, "a name");
     for (k = 0; k < sizeof words / sizeof *words; k++)
-        if (fits(f, words[k]) && !(is_name && isalpha((unsigned char)words[k][0]))) {
-            char quoted[32];
-            snprintf(quoted, sizeof quoted, "\"%s\"", words[k]);
-            add(&list, quoted);
+        if (fits(f, words[k], is_spaced) && !(is_name && is_letter((uint8_t)words[k][0]))) {
+            char quoted[32] = "\"";
+            append(quoted, sizeof quoted, words[k]);
+            append(quoted, sizeof quoted, "\"");
+            add(list, quoted);
         }
-    if (fits(f, "\""))
-        add(&list, "a value in quotes");
-    put_list(f, "; here may stand ", &list);
+    if (fits(f, "\"", is_spaced))
+        add(list, "a value in quotes");
+}
+
+static void put_fitting(const struct fault *f)
+{
+    struct list list = { "", 0, 0 };
+    if (f->at > 1 && stands(f->type, f->at - 2, "<!"))
+        add(&list, "\"--\"");
+    if (f->at > 2 && stands(f->type, f->at - 3, "<!-"))
+        add(&list, "\"-\"");
+    add_fitting(f, &list, 0);
+    if (!list.count)
+        add_fitting(f, &list, 1);
+    put_list(f, "; expected: ", &list);
 }
 
 void unfit_in_type(const struct fault *f)
 {
     uint8_t byte = byte_at(f->type, f->at);
-    if (isalnum(byte) || byte == '#')
-        fprintf(f->to, "%s may not stand here", name_at(f->type, f->at));
-    else
-        fprintf(f->to, byte <= ' ' ? "a separator may not stand here" : "\"%c\" may not stand here", byte);
-    if (is_name_byte(byte) && fits(f, name_at(f->type, f->at)))
-        fprintf(f->to, "; a space is missing before it");
+    size_t s = form_start(f);
+    put_here(f, f->type, f->at);
+    put(f, " is not allowed here");
+    if ((is_name_byte(byte) && fits(f, name_at(f, f->type, f->at), 0)) ||
+        (byte == '#' && fits(f, name_at(f, f->type, f->at), 1)) ||
+        ((byte == '"' || byte == '\'') && fits(f, "\"", 1)))
+        put(f, "; a space is missing before it");
     else
         put_fitting(f);
+    if (!stands(f->type, s, "<!") || !ends_within(f->q, f->type, f->at))
+        return;
+    if (sgml_position_of(f->type->bytes, f->type->length, s).end < f->at) {
+        put(f, "; the declaration began at ");
+        put_place(f, f->type, s);
+    }
+    put_open_quote(f, s);
 }
 
 /* The level is at fault if a name would do in place of the "(". */
 void quantity(const struct fault *f)
 {
-    if (byte_at(f->type, f->at) == '(' && may_stand(f->type, f->at, "A", 0))
-        fprintf(f->to, "groups stand in each other more than %d deep", SGML_GRPLVL);
+    const char *name = name_at(f, f->type, f->at);
+    if (byte_at(f->type, f->at) == '(' && may_stand(f->q, f->at, "A", 0))
+        put(f, "groups are nested more than %u deep", (unsigned)SGML_GRPLVL);
     else
-        fprintf(f->to, "%s%sone too many: a group has at most %d tokens, and a content model %d", name_at(f->type, f->at),
-                *name_at(f->type, f->at) ? " is " : "", SGML_GRPCNT, SGML_GRPGTCNT);
+        put(f, "%s%sone too many: a group has at most %u tokens, and a content model %u", name,
+            *name ? " is " : "", (unsigned)SGML_GRPCNT, (unsigned)SGML_GRPGTCNT);
 }
 
 void declared_twice(const struct fault *f)
 {
-    struct input before = { f->type->name, f->type->bytes, form_start(f) };
-    static struct question q;
+    const char *name = name_at(f, f->type, f->at);
+    char other[SGML_MOST_NAMELEN + 1];
     uint32_t k;
-    char name[SGML_MOST_NAMELEN + 1];
-    fprintf(f->to, "%s is declared twice", name_at(f->type, f->at));
-    begin_question(&q, &before, NULL, 0);
-    for (k = 1; k <= q.elements; k++) {
-        sgml_copy_name(f->type->bytes, q.records, k, name, sizeof name);
-        if (!strcmp(name, name_at(f->type, f->at))) {
-            fprintf(f->to, ", first at ");
-            put_place(f, f->type, sgml_record_at(q.records, k - 1).name_offset);
+    put(f, "%s is declared twice", name);
+    judge_beginning(f->q, form_start(f), "");
+    for (k = 1; k <= f->q->elements; k++) {
+        copy_name(f->q, k, other);
+        if (!strcmp(name, other)) {
+            put(f, ", first at ");
+            put_place(f, f->type, sgml_record_at(f->q->records, k - 1).name_offset);
         }
     }
 }
@@ -80,60 +102,92 @@ void declared_twice(const struct fault *f)
 void elements(const struct fault *f)
 {
     if (f->at == f->type->length)
-        fprintf(f->to, "the type file declares no element");
+        put(f, "the type file declares no element");
     else
-        fprintf(f->to, "%s is one too many: at most %d elements can be declared", name_at(f->type, f->at), SGML_ELEMENT_LIMIT);
+        put(f, "%s is one too many: at most %u elements can be declared", name_at(f, f->type, f->at),
+            (unsigned)SGML_ELEMENT_LIMIT);
+}
+
+/* Where the place stands that is so many places before the one at a byte, in a content model that was read
+ * whole: there only a name or #PCDATA has name bytes. */
+static size_t place_before(const struct input *type, size_t at, size_t places)
+{
+    while (places && at) {
+        at--;
+        if (type->bytes[at] == '#' || (is_name_byte(type->bytes[at]) && at &&
+                                       !is_name_byte(type->bytes[at - 1]) && type->bytes[at - 1] != '#'))
+            places--;
+    }
+    return at;
 }
 
 void ambiguous(const struct fault *f)
 {
     unsigned first = f->answer[SGML_ANSWER_FIRST], second = f->answer[SGML_ANSWER_SECOND];
-    size_t other = place_before(f->type->bytes, f->at, second - first);
-    fprintf(f->to, "this content model is ambiguous: %s may be this one, place %u, or ", name_at(f->type, f->at), second);
-    fprintf(f->to, "%s at ", name_at(f->type, other));
+    size_t other = place_before(f->type, f->at, second - first);
+    put(f, "this content model is ambiguous: %s may be this one, place %u, or ", name_at(f, f->type, f->at),
+        second);
+    put(f, "%s at ", name_at(f, f->type, other));
     put_place(f, f->type, other);
-    fprintf(f->to, ", place %u", first);
+    put(f, ", place %u", first);
 }
 
-/* "[" in place of a name is refused there by number 5 exactly if a content token stands there, and not a word of a declaration or
- * of a comment. */
-static int is_token(const struct input *type, size_t at, size_t length)
+/* The name stands in a content model before this byte, so that it was warned of already. */
+static int is_known(const struct fault *f, const char *name, size_t before)
 {
-    static uint8_t changed[SGML_TYPE_LIMIT];
-    uint32_t answer[SGML_ANSWER_SIZE];
-    memcpy(changed, type->bytes, at);
-    changed[at] = '[';
-    memcpy(changed + at + 1, type->bytes + at + length, type->length - at - length);
-    return sgml_judge(changed, type->length - length + 1, NULL, 0, answer, name_limit, edition) == SGML_ERR_LEFT_OUT && answer[SGML_ANSWER_POSITION] == at;
-}
-
-/* The name is one of those that stand one after the other, each in SGML_MOST_NAMELEN bytes and a zero. */
-static int is_known(const char *names, size_t count, const char *name)
-{
-    size_t k;
-    for (k = 0; k < count; k++)
-        if (!strcmp(names + k * (SGML_MOST_NAMELEN + 1), name))
-            return 1;
+    uint32_t n = element_named(f->q, name), k;
+    char other[SGML_MOST_NAMELEN + 1];
+    if (n && n <= f->q->declared)
+        return 1;
+    for (k = 1; k <= f->q->declared; k++) {
+        size_t at, end = model_of(f->q, k, &at);
+        for (end += at; at < end && at < before;) {
+            size_t length = word_length(f->type, at);
+            fold(f->type, at, length, other, sizeof other);
+            if (length && !strcmp(other, name))
+                return 1;
+            at += length ? length : 1;
+        }
+    }
     return 0;
 }
 
-void warn_of_undeclared(FILE *to, const struct input *type, int is_short)
+/* A declared name may be meant, or #PCDATA. */
+static void put_meant(const struct fault *f, const char *name)
 {
-    static char names[SGML_TYPE_LIMIT / 2 * (SGML_MOST_NAMELEN + 1)]; /* declared, or warned of */
-    static struct question q;
-    size_t count, at, length;
-    begin_question(&q, type, NULL, 0);
-    for (count = 0; count < q.elements; count++)
-        sgml_copy_name(type->bytes, q.records, (uint32_t)count + 1, names + count * (SGML_MOST_NAMELEN + 1), SGML_MOST_NAMELEN + 1);
-    for (at = 0; at < type->length; at += length ? length : 1) {
-        const char *name = name_at(type, at);
-        length = name_length(type->bytes, type->length, at);
-        if (!isalpha(type->bytes[at]) || length > name_limit || is_known(names, count, name) || !is_token(type, at, length))
-            continue;
-        strcpy(names + count++ * (SGML_MOST_NAMELEN + 1), name);
-        print_place(to, type, at);
-        fprintf(to, "warning: %s stands in a content model and is never declared\n", name);
-        if (!is_short)
-            print_line(to, type->bytes, position_of(type->bytes, type->length, at));
+    struct list list = { "", 0, 0 };
+    char other[SGML_MOST_NAMELEN + 1];
+    uint32_t k;
+    if (!strcmp(name, "PCDATA") || is_near(name, "PCDATA"))
+        add(&list, "#PCDATA");
+    for (k = 1; k <= f->q->declared; k++) {
+        copy_name(f->q, k, other);
+        if (is_close(name, other) && (strlen(name) > 2 || strlen(other) > 2))
+            add(&list, other);
+    }
+    put_question(f, &list);
+}
+
+void warn(const struct fault *f, size_t *from, size_t *at)
+{
+    char name[SGML_MOST_NAMELEN + 1];
+    uint32_t k;
+    for (k = 1; k <= f->q->declared; k++) {
+        size_t s, length, end = model_of(f->q, k, &s);
+        for (end += s; s < end; s += length ? length : 1) {
+            length = word_length(f->type, s);
+            if (!length || s < *from || f->type->bytes[s] == '#')
+                continue;
+            fold(f->type, s, length, name, sizeof name);
+            if (is_known(f, name, s) || !is_token(f->q, s, length))
+                continue;
+            *at = s;
+            *from = s + length;
+            put(f, "%s:", f->type->name);
+            put_place(f, f->type, s);
+            put(f, ": warning: %s is used in a content model, but never declared", name);
+            put_meant(f, name);
+            return;
+        }
     }
 }

@@ -38,7 +38,7 @@ int main(int argc, char **argv)
     printf("elements %u\n", (unsigned)answer[SGML_ANSWER_COUNT]);
     for (k = 0; k < answer[SGML_ANSWER_COUNT]; k++) {
         struct sgml_record r = sgml_record_at(records, k);
-        sgml_copy_name(type, records, k + 1, name, sizeof name);
+        sgml_copy_name(type, records, answer[SGML_ANSWER_COUNT], k + 1, name, sizeof name);
         printf("%s %c %c ", name, r.start_tag ? 'O' : '-', r.end_tag ? 'O' : '-');
         if (r.content)
             printf("model of %u content tokens\n", (unsigned)r.tokens);

@@ -2,30 +2,11 @@
 #ifndef POSITION_H
 #define POSITION_H
 
-#include <stddef.h>
-#include <stdint.h>
+#include "sgml_position.h"
 #include <stdio.h>
 
-struct position {
-    size_t line, column; /* both from 1; a line ends with byte 10, a column is a byte */
-    size_t start, end;   /* the line's bytes, without the byte 10 */
-};
-
-/* Where the byte `at` of a text stands; `at` may be the text's length. */
-static inline struct position position_of(const uint8_t *text, size_t length, size_t at)
-{
-    struct position p = { 1, 1, 0, at };
-    size_t i;
-    for (i = 0; i < at; i++)
-        if (text[i] == '\n') {
-            p.line++;
-            p.start = i + 1;
-        }
-    p.column = at - p.start + 1;
-    while (p.end < length && text[p.end] != '\n')
-        p.end++;
-    return p;
-}
+#define position sgml_position
+#define position_of sgml_position_of
 
 /* Prints the line and a caret under the byte. Of a long line only the surroundings are shown; a byte that a terminal may not
  * show as one character is a space or a question mark. */

@@ -84,9 +84,9 @@ static void check_texts(void)
         "the lent buffer is too small",
         "an attribute that is not declared, or is there twice",
         "a required attribute is missing",
-        "a value that is not as its attribute is declared",
-        "lists of documents and stretches that are unfit",
-        "a length of names or an edition that is not offered",
+        "a value that does not fit its declared value",
+        "lists of documents and stretches that do not fit",
+        "a name length or an edition that is not supported",
         "an \"&\" group that is repeated",
         "no refusal has this number",
     };
@@ -107,9 +107,9 @@ static void check_records(const char *two)
     b = sgml_record_at(records, 1);
     check(a.name_offset == 10 && a.name_length == 3 && !a.start_tag && a.end_tag && a.content == 1 && a.tokens == 2, "a record");
     check(b.name_length == 1 && b.start_tag && b.end_tag && !b.content && !b.tokens, "the record of an EMPTY element");
-    check(sgml_copy_name((const uint8_t *)two, records, 1, name, sizeof name) == 3 && !strcmp(name, "A.1"), "a name in upper case");
-    check(sgml_copy_name((const uint8_t *)two, records, 1, name, 3) == 3 && !strcmp(name, "A."), "a name without room");
-    check(sgml_copy_name((const uint8_t *)two, records, 1, NULL, 0) == 3, "a name without any room");
+    check(sgml_copy_name((const uint8_t *)two, records, 2, 1, name, sizeof name) == 3 && !strcmp(name, "A.1"), "a name in upper case");
+    check(sgml_copy_name((const uint8_t *)two, records, 2, 1, name, 3) == 3 && !strcmp(name, "A."), "a name without room");
+    check(sgml_copy_name((const uint8_t *)two, records, 2, 1, NULL, 0) == 3, "a name without any room");
 }
 
 int main(int argc, char **argv)

@@ -1,6 +1,6 @@
 /* boundary_batch.c - the batch's C boundary: each answer and each stretch beside the single call's, guard bytes between stretches, lists of 0, 1, 200 and 201
  * documents, stretches in any order, touching, sharing a byte, passing the end by one, sums past what a size_t holds, lists of unequal length, the order of
- * refusals with a type that is refused, lengths of names and editions. */
+ * refusals with a type that is refused, lengths of names and editions; a call that is refused as a whole leaves a buffer of zeros and the answers as they were. */
 #include "check.h"
 
 enum { MOST = SGML_BATCH_LIMIT + 1, ROOM = 4096 };
@@ -27,22 +27,35 @@ static uint32_t batch(const char *type, size_t type_len, size_t n, uint32_t *ans
                            answers, SGML_ANSWER_SIZE * n, answer, name_length, edition);
 }
 
-/* The n documents as the single calls have them; every byte outside the stretches is as it was. */
+static void check_refused(uint32_t number, const uint32_t *answer, uint32_t expected)
+{
+    check(number == expected && answer[SGML_ANSWER_NUMBER] == expected, "the whole call is refused");
+    check(answer[SGML_ANSWER_INPUT] == SGML_IN_TYPE && answer[SGML_ANSWER_POSITION] == 0 && answer[SGML_ANSWER_FIRST] == 0 && answer[SGML_ANSWER_SECOND] == 0
+              && answer[SGML_ANSWER_COUNT] == 0,
+          "in the type at 0");
+    check(all(buffer, sizeof buffer, 0), "the buffer is zero");
+    check(all((const uint8_t *)answers, sizeof answers, FILL), "the answers are as they were");
+}
+
+/* The n documents as the single calls have them, and every byte outside the stretches as it was; or all of it refused, where the settings are not offered. */
 static void check_single(const char *type, size_t type_len, size_t n, uint32_t name_length)
 {
     static uint8_t expected[sizeof buffer];
     uint32_t answer[SGML_ANSWER_SIZE], own[SGML_ANSWER_SIZE];
     size_t i;
-    int offered = SGML_NAMELEN <= name_length && name_length <= SGML_MOST_NAMELEN && SGML_FIRST_EDITION <= edition && edition <= SGML_SECOND_EDITION;
-    check(batch(type, type_len, n, answer, name_length) == (offered ? SGML_ACCEPTED : SGML_ERR_SETTINGS), "the lists are fit");
-    if (offered)
-        check(answer[SGML_ANSWER_NUMBER] == 0 && answer[SGML_ANSWER_INPUT] == 0 && answer[SGML_ANSWER_POSITION] == 0 && answer[SGML_ANSWER_COUNT] == n, "the whole answer");
-    else
-        check(answer[SGML_ANSWER_NUMBER] == SGML_ERR_SETTINGS && answer[SGML_ANSWER_INPUT] == SGML_IN_TYPE && answer[SGML_ANSWER_POSITION] == 0 && answer[SGML_ANSWER_COUNT] == 0, "24 of the whole call");
+    uint32_t number = batch(type, type_len, n, answer, name_length);
+    if (!(SGML_NAMELEN <= name_length && name_length <= SGML_MOST_NAMELEN && SGML_FIRST_EDITION <= edition && edition <= SGML_SECOND_EDITION)) {
+        check_refused(number, answer, SGML_ERR_SETTINGS);
+        return;
+    }
+    check(number == SGML_ACCEPTED, "the lists are fit");
+    check(answer[SGML_ANSWER_NUMBER] == 0 && answer[SGML_ANSWER_INPUT] == 0 && answer[SGML_ANSWER_POSITION] == 0 && answer[SGML_ANSWER_FIRST] == 0
+              && answer[SGML_ANSWER_SECOND] == 0 && answer[SGML_ANSWER_COUNT] == n,
+          "the whole answer");
     memset(expected, FILL, sizeof expected);
     for (i = 0; i < n; i++) {
         if (starts[i] <= string_len && lengths[i] <= string_len - starts[i]) {
-            uint32_t number = sgml_read((const uint8_t *)type, type_len, (const uint8_t *)string + starts[i], lengths[i], expected + froms[i], sizes[i], own, name_length, edition);
+            number = sgml_read((const uint8_t *)type, type_len, (const uint8_t *)string + starts[i], lengths[i], expected + froms[i], sizes[i], own, name_length, edition);
             check(number == own[SGML_ANSWER_NUMBER], "the single call");
         } else {
             static const uint8_t none[SGML_DOCUMENT_LIMIT + 1];
@@ -52,14 +65,6 @@ static void check_single(const char *type, size_t type_len, size_t n, uint32_t n
     }
     check(!memcmp(expected, buffer, sizeof buffer), "stretches are the single calls', and the rest stays");
     check(all((const uint8_t *)(answers + SGML_ANSWER_SIZE * n), sizeof answers - SGML_ANSWER_SIZE * n * sizeof *answers, FILL), "no answer behind the last");
-}
-
-static void check_refused(uint32_t number, const uint32_t *answer, uint32_t expected)
-{
-    check(number == expected && answer[SGML_ANSWER_NUMBER] == expected, "the whole call is refused");
-    check(answer[SGML_ANSWER_INPUT] == SGML_IN_TYPE && answer[SGML_ANSWER_POSITION] == 0 && answer[SGML_ANSWER_COUNT] == 0, "in the type at 0");
-    check(all(buffer, sizeof buffer, 0), "the buffer is zero");
-    check(all((const uint8_t *)answers, sizeof answers, FILL), "the answers are as they were");
 }
 
 static void refused(size_t n)
@@ -83,6 +88,22 @@ static void lay(size_t n)
         froms[i] = i * ROOM + 8;
         sizes[i] = i % 7 == 3 ? 40 : 600 + i % 5;
     }
+}
+
+/* Settings that no call takes, with lists that are fit and a stretch that leaves 80 of 200 bytes: all 200 are zeroed. */
+static void not_offered(uint32_t name_length, uint32_t other)
+{
+    uint32_t answer[SGML_ANSWER_SIZE];
+    size_t start = 0, length = string_len, from = 40, size = 120;
+    memset(buffer, FILL, sizeof buffer);
+    memset(answers, FILL, sizeof answers);
+    check(sgml_read_batch((const uint8_t *)stock, sizeof stock - 1, (const uint8_t *)string, string_len, &start, 1, &length, 1, buffer, 200, &from, 1, &size, 1, answers,
+                          SGML_ANSWER_SIZE, answer, name_length, other)
+              == SGML_ERR_SETTINGS,
+          "settings that no call takes");
+    check(all(buffer, 200, 0), "the whole buffer is zero");
+    check(all(buffer + 200, sizeof buffer - 200, FILL), "nothing behind it is");
+    check(all((const uint8_t *)answers, sizeof answers, FILL), "the answers are as they were");
 }
 
 int main(void)
@@ -110,6 +131,10 @@ int main(void)
             check_single(stock, sizeof stock - 1, i, SGML_NAMELEN);
         edition = SGML_FIRST_EDITION;
     }
+    not_offered(SGML_NAMELEN - 1, SGML_FIRST_EDITION);
+    not_offered(SGML_MOST_NAMELEN + 1, SGML_SECOND_EDITION);
+    not_offered(SGML_NAMELEN, SGML_FIRST_EDITION - 1);
+    not_offered(SGML_NAMELEN, SGML_SECOND_EDITION + 1);
     lay(MOST);
     refused(MOST);
     check(sgml_read_batch(NULL, 0, NULL, 0, NULL, 0, NULL, 0, NULL, 0, NULL, 0, NULL, 0, NULL, 0, answer, SGML_NAMELEN, SGML_FIRST_EDITION) == SGML_ACCEPTED, "no documents, null lists");
@@ -178,7 +203,6 @@ int main(void)
     check_single(dirty, sizeof dirty, 9, SGML_NAMELEN);
     check_single(longer, sizeof longer, 9, SGML_NAMELEN);
     check_single(stock, sizeof stock - 1, 9, SGML_NAMELEN - 1);
-    check(answers[0] == SGML_ERR_SETTINGS, "24 comes before a part's 1");
 
     /* lists of unequal length, and room for fewer and for more answers */
     lay(9);

@@ -84,15 +84,25 @@ check "the driver" tests/fuzz/run 2 driver
 told
 
 echo "the controller on its samples"
-for c in examples/catalogues/*.cat; do
-    echo "$c:"
-    ran target/controller examples/cabinet.type "$c"
-    cat "$out/stdout"
+# counted WORD..: the controller's output and status, under its arguments.
+counted() {
+    echo "$*:"
+    ran target/controller "$@"
+    cat "$out/stdout" "$out/stderr"
     echo "status $status"
-done >"$out/controller.txt"
+}
+{
+    for c in examples/catalogues/*.cat; do counted examples/cabinet.type "$c"; done
+    for c in unnumbered par kits; do counted "examples/$c.type" "examples/$c.cat"; done
+    c=examples/catalogues
+    counted examples/cabinet.type $c/few-tags.cat nowhere $c/cut-short.cat $c/quantity-empty.cat $c/larger.cat
+} >"$out/controller.txt"
 check "the controller prints what is expected" diff "$out/controller.txt" examples/controller.expected
 controller="target/controller examples/cabinet.type examples/catalogues"
-ends 2 "usage: controller TYPE CATALOGUE" target/controller
+ends 2 "usage: controller [--edition N] [--name-length N] TYPE CATALOGUE.." target/controller
+ends 2 "controller: unknown option: --editions" target/controller --editions 2 a b
+ends 2 "controller: --edition takes a number from 1 to 2" target/controller --edition 3 a b
+ends 2 "controller: --name-length takes a number from 8 to 32" target/controller --name-length 7 a b
 ends 2 "controller: examples/catalogues: Is a directory" $controller
 ends 2 "controller: standard output: Bad file descriptor" bash -c "$controller/few-tags.cat >&-"
 ends 2 "controller: standard output: No space left on device" bash -c "$controller/end-tag-too-many.cat >/dev/full"
@@ -103,15 +113,22 @@ printf '%s\n' "drawer      items    counted       pieces" "     1       2849    
 check "the controller on a full catalogue" diff "$out/stdout" "$out/full"
 ran target/controller examples/two-drawers.type examples/catalogues/few-tags.cat
 check "both places of an ambiguous model" test "$status,$(head -1 "$out/stdout")" = "1,examples/two-drawers.type:2:27: an ambiguous content model: this ITEM, place 2, or ITEM at 2:21, place 1"
-ran target/controller examples/unnumbered.type examples/unnumbered.cat
-printf '%s\n' "drawer      items    counted       pieces" "     1          2          1           40" "     3          1          1           12" "   all          3          2           52" >"$out/unnumbered"
-check "drawers by the places of their items" diff "$out/stdout" "$out/unnumbered"
-ran target/controller examples/par.type examples/par.cat
-printf '%s\n' "drawer      items    counted       pieces          par        short" \
-    "     1          2          2           19           50           31" \
-    "     2          2          1           12           15            0" \
-    "   all          4          3           31           65           31" >"$out/par"
-check "par levels, and what is short of them" diff "$out/stdout" "$out/par"
+printf '<!ELEMENT LIST O O (THING+)><!ELEMENT THING - O (#PCDATA)>' >"$out/things.type"
+ran target/controller "$out/things.type" examples/par.cat
+check "a type without ITEM" test "$status,$(cat "$out/stdout")" = \
+    "1,$out/things.type: this type declares no element ITEM, so there is nothing to count"
+printf '<!ELEMENT ITEM - O (NAME,QTY?)><!ELEMENT NAME - O (#PCDATA|TRADENAME)>' >"$out/trade.type"
+printf '<!ELEMENT TRADENAME - O (#PCDATA)><!ELEMENT QTY - O (#PCDATA)>' >>"$out/trade.type"
+printf '<ITEM><NAME>\r\n<TRADENAME>clamp<QTY>40' >"$out/trade.cat"
+for options in "" "--edition 2" "--name-length 9"; do
+    ran target/controller $options "$out/trade.type" "$out/trade.cat"
+    check "the controller with ${options:-no option}" test "$status" -eq 1
+done
+ran target/controller --name-length 9 --edition 2 "$out/trade.type" "$out/trade.cat"
+check "the controller with an edition and a length of names" test "$status,$(tail -1 "$out/stdout")" = \
+    "0,   all          1          1           40"
+ran target/controller examples/cabinet.type $(printf 'examples/catalogues/few-tags.cat %.0s' $(seq 201))
+check "more catalogues than one call takes" test "$status,$(grep -c '^   all          3 ' "$out/stdout")" = 0,201
 told
 
 # Where a byte of a file stands, as FILE:LINE:COLUMN.
@@ -139,6 +156,10 @@ for v in tests/vectors/*/*; do
     refused,19,*)
         ran "$sanitized" $names "$v/type.sgm" "$v/doc.sgm"
         check "$v: the command's own buffer grows" grep -q '^events ' "$out/stdout"
+        ;;
+    refused,24,*)
+        ran "$sanitized" $names "$v/type.sgm" "$v/doc.sgm"
+        check "$v: a misuse" test "$status" -eq 2 -a ! -s "$out/stdout"
         ;;
     refused,*,type) refuses "$(place "$v/type.sgm" "$position")" "$number" "$sanitized" $names "$v/type.sgm" "$v/doc.sgm" ;;
     *) refuses "$(place "$v/doc.sgm" "$position")" "$number" "$sanitized" $names "$v/type.sgm" "$v/doc.sgm" ;;
@@ -207,7 +228,7 @@ fi
 told
 
 echo "the command's options, standard input, and misuse"
-sgml=target/sgml
+sgml=${SGML:-target/sgml} # another build, to see that a test fails there
 type=examples/cabinet.type
 few=examples/catalogues/few-tags.cat
 head -c 70000 /dev/zero | tr '\0' x >"$out/long"
@@ -220,7 +241,7 @@ ends 0 "" bash -c "$sgml --check $type $few >&-"
 ends 0 "" bash -c "cd $out && ../../sgml --check -- --check ../../../$few"
 ends 0 "" $sgml --check -q $type $few examples/catalogues/larger.cat
 ends 0 "" $sgml --check $type
-here="<stdin>:1:7: <QTY> is not allowed here: LIST (begun at 1:1) is not complete; here may come <ITEM>, <NAME> or data [12]"
+here="<stdin>:1:7: <QTY> is not allowed here: <NAME> may be missing before it; LIST (begun at 1:1) is not complete; here may come <ITEM>, <NAME> or data [12]"
 ends 1 "$here" bash -c "printf '<LIST><QTY>' | $sgml examples/stock.type -"
 check "the line with a caret" test "$(tail -n +2 "$out/stderr")" = "<LIST><QTY>
       ^"
@@ -233,7 +254,7 @@ two="examples/two-drawers.type:2:27: this content model is ambiguous: ITEM may b
 ends 1 "$two" $sgml --check examples/two-drawers.type $few
 ends 1 "$two" $sgml --check examples/two-drawers.type
 ends 1 "$two" $sgml -q examples/two-drawers.type $few $few $few
-check "a refused type is told of once" test "$(wc -l <"$out/stderr")" -eq 1
+check "a refused type is reported once" test "$(wc -l <"$out/stderr")" -eq 1
 ends 1 "$out/long:1:1: this document has more than 65535 bytes [1]" $sgml $type "$out/long"
 ends 1 "$out/long:1:1: this type file has more than 32768 bytes [1]" $sgml "$out/long" $few
 ends 1 "<stdin>:1:1: this document has more than 65535 bytes [1]" bash -c "$sgml $type - <$out/long"
@@ -246,14 +267,19 @@ ends 1 "$out/nine.type:1:11: ABCDEFGHI has 9 bytes, and a name has at most 8 [3]
 for length in 0 7 33 4294967295 99999999999999999999; do
     number=$length
     [ ${#length} -lt 12 ] || number=4294967295
-    ends 1 "$type:1:1: a length of names that is not offered: it is a number from 8 to 32, and not $number [24]" $sgml --name-length $length $type $few
-    check "24 shows no line" test "$(wc -l <"$out/stderr")" -eq 1
-    ends 1 "$type:1:1: a length of names that is not offered: it is a number from 8 to 32, and not $number [24]" $sgml --check --name-length $length $type
+    ends 2 "sgml: --name-length takes a number from 8 to 32, not $number" $sgml --name-length $length $type $few
+    ends 2 "sgml: --name-length takes a number from 8 to 32, not $number" $sgml --check --name-length $length $type
+    ends 2 "sgml: --name-length takes a number from 8 to 32, not $number" $sgml --batch --name-length $length $type $few
+    # the small program hands it to the library as it is
+    ran $sgml --answer --name-length $length $type $few
+    check "--answer --name-length $length" test "$status,$(cat "$out/stdout")" = "1,refused 24 in type at 0"
 done
-for word in "" x 9x -9 " 9"; do
-    ends 2 "sgml: --name-length takes a number" $sgml --check $type --name-length "$word"
+for word in x 9x -9 " 9"; do
+    ends 2 "sgml: --name-length takes a number from 8 to 32, not $word" $sgml --check $type --name-length "$word"
+    ends 2 "sgml: --name-length takes a number from 8 to 32, not $word" $sgml --check $type "--name-length=$word"
 done
-ends 2 "sgml: --name-length takes a number" $sgml --check $type --name-length
+ends 2 "sgml: --name-length takes a number from 8 to 32, not nothing" $sgml --check $type --name-length ""
+ends 2 "sgml: --name-length takes a number from 8 to 32, not nothing" $sgml --check $type --name-length
 # the edition
 printf '<!ELEMENT P - O (#PCDATA)>' >"$out/record.type"
 printf '<P>\r\nclamp\r\n</P>' >"$out/record.sgm"
@@ -266,26 +292,29 @@ done
 for edition in 0 3 4294967295 99999999999999999999; do
     number=$edition
     [ ${#edition} -lt 12 ] || number=4294967295
-    ends 1 "$type:1:1: an edition that is not offered: it is 1 or 2, and not $number [24]" $sgml --edition $edition $type $few
-    ends 1 "$type:1:1: an edition that is not offered: it is 1 or 2, and not $number [24]" $sgml --check --edition $edition $type
+    ends 2 "sgml: --edition takes 1 or 2, not $number" $sgml --edition $edition $type $few
+    ends 2 "sgml: --edition takes 1 or 2, not $number" $sgml --check --edition=$edition $type
+    ran $sgml --answer --edition $edition $type $few
+    check "--answer --edition $edition" test "$status,$(cat "$out/stdout")" = "1,refused 24 in type at 0"
 done
-for word in "" x 2x -2; do
-    ends 2 "sgml: --edition takes a number" $sgml --check $type --edition "$word"
+for word in x 2x -2; do
+    ends 2 "sgml: --edition takes 1 or 2, not $word" $sgml --check $type --edition "$word"
 done
-ends 2 "sgml: --edition takes a number" $sgml --check $type --edition
-ends 2 "sgml: a type file and a document are due" $sgml
-ends 2 "sgml: a type file and a document are due" $sgml $type
-ends 2 "sgml: a type file and a document are due" $sgml --answer $type
-ends 2 "sgml: no such option: --verify" $sgml --verify $type $few
-ends 2 "sgml: no such option: -x" $sgml -x $type $few
-ends 2 "sgml: --esis, --check, --answer and --batch exclude each other" $sgml --esis --check $type $few
-ends 2 "sgml: --esis, --check, --answer and --batch exclude each other" $sgml --answer --check $type $few
-ends 2 "sgml: --esis, --check, --answer and --batch exclude each other" $sgml --answer --batch $type $few
+ends 2 "sgml: --edition takes 1 or 2, not nothing" $sgml --check $type --edition
+ends 2 "sgml: missing operands: TYPE and DOCUMENT" $sgml
+ends 2 "sgml: missing operand: DOCUMENT" $sgml $type
+ends 2 "sgml: missing operand: DOCUMENT" $sgml --answer $type
+ends 2 "sgml: unknown option: --verify" $sgml --verify $type $few
+ends 2 "sgml: unknown option: --editions=2" $sgml --editions=2 $type $few
+ends 2 "sgml: unknown option: -x" $sgml -x $type $few
+ends 2 "sgml: --esis, --check, -s, --answer and --batch exclude each other" $sgml --esis --check $type $few
+ends 2 "sgml: --esis, --check, -s, --answer and --batch exclude each other" $sgml --answer --check $type $few
+ends 2 "sgml: --esis, --check, -s, --answer and --batch exclude each other" $sgml --answer --batch $type $few
 $sgml --batch $type $few $few >"$out/batch.txt" 2>"$out/stderr" || true
 { for _ in 1 2; do echo "== $few"; $sgml --answer $type $few || true; done; } >"$out/batch.expected" 2>"$out/stderr"
 check "a batch prints of each its name and what --answer prints" diff "$out/batch.txt" "$out/batch.expected"
-ends 2 "sgml: --places is a part of an event's line: neither --esis nor --check prints one" $sgml --places --esis $type $few
-ends 2 "sgml: --places is a part of an event's line: neither --esis nor --check prints one" $sgml --check --places $type $few
+ends 2 "sgml: --places adds to the lines of events, and --esis, --check and -s print none" $sgml --places --esis $type $few
+ends 2 "sgml: --places adds to the lines of events, and --esis, --check and -s print none" $sgml --check --places $type $few
 ends 2 "sgml: only one file can be standard input" $sgml - -
 ends 2 "sgml: only one file can be standard input" $sgml $type - $few -
 ends 2 "sgml: examples: Is a directory" $sgml $type examples
@@ -311,15 +340,90 @@ ran $sgml $type $few $short nowhere $few
 { echo "$few:"; $sgml $type $few; echo "$short:"; echo "$few:"; $sgml $type $few; } >"$out/several"
 check "several documents: the output" diff "$out/stdout" "$out/several"
 check "several documents: status 2 if one could not be read" test "$status" -eq 2
-check "several documents: the refusal" grep -q "^$short:4:1: the document ends, but ITEM (begun at 3:1) is not complete" "$out/stderr"
+check "several documents: the refusal" grep -q "^$short:4:1: the document ends, but ITEM (begun at 3:1) is not complete: <NAME> is missing" "$out/stderr"
 check "several documents: the missing one" grep -qx "sgml: nowhere: No such file or directory" "$out/stderr"
 ran $sgml --check $type $few $short $few
 check "several documents: status 1 if one is refused" test "$status" -eq 1 -a ! -s "$out/stdout"
 
+ran $sgml -q --check "$out/missing" $few
+check "a type file that cannot be read" is_silent 2 "sgml: $out/missing: No such file or directory"
+
+# a catalogue of 37,039 events is accepted in a batch too, and one unreadable file silences no other
+ran $sgml --batch $type nowhere "$out/full.cat" $short $few
+{ echo "== $out/full.cat"; $sgml $type "$out/full.cat"; echo "== $short"; $sgml --answer $type $short || true; echo "== $few"; $sgml $type $few; } >"$out/batch.expected"
+check "a batch lends what is needed" diff "$out/stdout" "$out/batch.expected"
+check "a batch: status 2 if one could not be read" test "$status" -eq 2
+printf '%s\n' "sgml: nowhere: No such file or directory" "$short:4:1: the document ends, but ITEM (begun at 3:1) is not complete: <NAME> is missing; here may come <NAME> or data [13]" >"$out/batch.expected"
+check "a batch: refusals have line, column and text" diff <(head -2 "$out/stderr") "$out/batch.expected"
+# 250 documents: --check and --esis make batches of 200 of them, and --batch refuses them
+many=$(for i in $(seq 248); do echo $few; done)
+ran $sgml --check -q $type $short $many $short
+check "250 documents by --check" test "$status,$(wc -l <"$out/stderr"),$(grep -c "^$short:4:1: " "$out/stderr")" = 1,2,2
+ran $sgml --esis $type $many $few $few
+for i in $(seq 250); do $sgml --esis $type $few; done >"$out/many.esis"
+check "250 documents by --esis" cmp "$out/stdout" "$out/many.esis"
+ran $sgml --batch $type $many $few $few
+check "250 documents by --batch" test "$status,$(cat "$out/stdout"),$(cat "$out/stderr")" = "1,refused 23 in type at 0,sgml: --batch reads at most 200 documents in one call, not 250 [23]"
+# the output and the errors of each document in the order of the files, if both go to one place
+$sgml -q $type $few $short nowhere $few >"$out/both" 2>&1 || true
+sed -n 's/^events.*/events/p; s/^\(.*\):$/\1/p; s/:4:1: .*//p; s/^sgml: .*/nowhere/p' "$out/both" >"$out/order"
+printf '%s\n' $few events $short $short nowhere $few events >"$out/order.expected"
+check "output and errors in the order of the files" diff "$out/order" "$out/order.expected"
+
+# what scripts for onsgmls use
+ran $sgml --esis $type $few $short $few
+{ $sgml --esis $type $few; $sgml --esis $type $few; } >"$out/twice.esis"
+check "--esis of several documents prints nothing else" diff "$out/stdout" "$out/twice.esis"
+ends 0 "" $sgml -s $type $few
+ends 0 "" $sgml --esis -s -l $type $few $few
+ends 0 "" $sgml -s $type
+ends 2 "sgml: --esis, --check, -s, --answer and --batch exclude each other" $sgml -s --answer $type $few
+ends 2 "sgml: -l needs --esis" $sgml -l $type $few
+rm -f "$out/errors"
+for option in "-f $out/errors" "-f$out/errors"; do
+    ran $sgml -q $option --check $type $short
+    check "$option" test "$status,$(cat "$out/stdout" "$out/stderr")" = 1,
+done
+check "-f appends" test "$(grep -c "^$short:4:1: .* \[13\]$" "$out/errors")" -eq 2
+ends 2 "sgml: $out/no/errors: No such file or directory" $sgml -f "$out/no/errors" --check $type $short
+ends 2 "sgml: -f takes the name of a file" $sgml --check $type $few -f
+ran $sgml --esis -l $type $few
+check "-l begins with the file" test "$(head -1 "$out/stdout")" = "L1 $few"
+check "-l adds L commands only" diff <(grep -v '^L' "$out/stdout") <($sgml --esis $type $few)
+if needs onsgmls opensp "L commands of onsgmls"; then
+    { printf '<!DOCTYPE CATALOG [\n'; cat tests/command/dental.type; printf ']>'; } >"$out/dental.wrap"
+    sed 's/$/\r/' tests/command/dental.sgm >"$out/dental.sgm"
+    for o in "" -l; do
+        onsgmls -w no-all $o "$out/dental.wrap" "$out/dental.sgm" >"$out/lines.expected"
+        ran $sgml --esis $o --edition=2 tests/command/dental.type "$out/dental.sgm"
+        check "--esis $o as onsgmls" diff "$out/stdout" "$out/lines.expected"
+    done
+    # the call that --help gives for a comparison
+    ran $sgml --help
+    sed -n 's/^  \({ printf .*\)/\1/p; s/^  \(onsgmls .*\)/\1/p' "$out/stdout" | sed "s|NAME|CATALOG|; s|TYPE ;|TYPE;|; s|cat TYPE|cat $PWD/tests/command/dental.type|; s|DOCUMENT|$PWD/$out/dental.sgm|" >"$out/compare.sh"
+    (cd "$out" && bash compare.sh) >"$out/compare.esis" 2>"$out/compare.err"
+    ran $sgml --esis --edition 2 tests/command/dental.type "$out/dental.sgm"
+    check "the call of onsgmls in --help" diff "$out/stdout" "$out/compare.esis"
+fi
+
+# edition 2 is about byte 13
+ran $sgml --edition=2 "$out/record.type" "$out/record.sgm"
+check "--edition=2" test "$(sed -n 3p "$out/stdout"),$(cat "$out/stderr")" = "5 - 5 5,"
+warning="examples/catalogues/few-tags.cat:1:1: warning: the lines of this document end with byte 10 alone; edition 2 is about byte 13, so it reads as in edition 1"
+ends 0 "$warning" $sgml --check --edition 2 $type $few
+check "one warning for a document" test "$(wc -l <"$out/stderr")" -eq 1
+ran $sgml --edition 2 $type $few
+check "and the events of edition 1" diff "$out/stdout" <($sgml $type $few)
+ends 0 "" $sgml --check --edition 1 $type $few
+printf '<P>one line</P>' >"$out/line.sgm"
+ends 0 "" $sgml --check --edition 2 "$out/record.type" "$out/line.sgm"
+ran $sgml --answer --edition 2 $type $few
+check "no warning by --answer" test ! -s "$out/stderr"
+
 # names that are never declared
 printf '<!-- TAPE -->\n<!ELEMENT A - O (B,(CLAMPP|TAPE)*,B,#PCDATA,b1) -- NONE -->\n<!ELEMENT B - O EMPTY>' >"$out/slips.type"
 ran $sgml -q --check "$out/slips.type"
-printf "$out/slips.type:2:%s: warning: %s stands in a content model and is never declared\n" 21 CLAMPP 28 TAPE 45 B1 >"$out/slips"
+printf "$out/slips.type:2:%s: warning: %s is used in a content model, but never declared\n" 21 CLAMPP 28 TAPE 45 B1 >"$out/slips"
 check "names never declared" diff "$out/stderr" "$out/slips"
 check "they are allowed" test "$status" -eq 0 -a ! -s "$out/stdout"
 told
@@ -328,7 +432,8 @@ echo "make install, and a program that links by pkg-config"
 prefix=$PWD/$out/prefix
 make install PREFIX="$prefix" >"$out/install.log"
 make install PREFIX=/usr DESTDIR="$PWD/$out/stage" >"$out/install.log"
-printf '%s\n' bin/sgml include/sgml.h lib/libsgml.a lib/pkgconfig/sgml.pc share/man/man1/sgml.1 >"$out/files"
+printf '%s\n' bin/sgml include/sgml.h include/sgml_messages.h include/sgml_position.h lib/libsgml.a lib/libsgml_messages.a \
+    lib/pkgconfig/sgml.pc share/man/man1/sgml.1 >"$out/files"
 (cd "$prefix" && find . -type f | sort | sed 's|^\./||') >"$out/files.prefix"
 (cd "$out/stage/usr" && find . -type f | sort | sed 's|^\./||') >"$out/files.stage"
 check "the files under PREFIX" diff "$out/files" "$out/files.prefix"
@@ -349,27 +454,17 @@ fi
 if needs groff groff "the manual page"; then
     check "the manual page" test -z "$(groff -man -ww -z command/sgml.1 2>&1)"
 fi
+spaced="$PWD/$out/a prefix"
+make install PREFIX="$spaced" >"$out/install.log"
+check "a PREFIX with a space" test "$(cd "$spaced" && find . -type f | sort | sed 's|^\./||')" = "$(cat "$out/files")"
+if needs pkg-config pkg-config "a program that links by pkg-config under a PREFIX with a space"; then
+    flags=$(PKG_CONFIG_PATH=$spaced/lib/pkgconfig pkg-config --cflags --libs sgml)
+    check "pkg-config of a PREFIX with a space" eval "cc -std=c99 $strict tests/command/installed.c $flags -o $out/spaced"
+fi
+make uninstall PREFIX="$spaced" >"$out/install.log"
+check "make uninstall from a PREFIX with a space" test -z "$(find "$spaced" -type f)"
 touch "$prefix/lib/other.a"
 make uninstall PREFIX="$prefix" >"$out/install.log"
 check "make uninstall takes away what was installed, and no more" test "$(cd "$prefix" && find . -type f)" = ./lib/other.a
-told
-
-echo "the programs in the header and the README"
-# program FILE MARKER BLANKS: the first lines after the marker that begin with these blanks, as the body of a program.
-program() {
-    { printf '#include "sgml.h"\n#include <stdio.h>\n#include <stdlib.h>\n'
-      printf 'static const uint8_t type[] = "<!ELEMENT A O O (#PCDATA)>", document[] = "clamp";\n'
-      printf 'int main(void) {\nsize_t type_len = sizeof type - 1, document_len = sizeof document - 1;\n'
-      awk -v marker="$2" -v blanks="$3" 'index($0, blanks) == 1 && after { print substr($0, length(blanks) + 1); code = 1; next }
-          code { exit } index($0, marker) { after = 1 }' "$1" | grep -v '^#include'
-      printf 'return 0;\n}\n'; } >"$out/program.c"
-}
-echo "2 1 0 0 0 5 0 0 5 0 4 1 5 0 0" >"$out/program.expected"
-program include/sgml.h "A program of ten lines" " *     "
-check "that of the header compiles" cc -std=c99 $strict -Iinclude "$out/program.c" $library -o "$out/program"
-check "and prints the events" test "$("$out/program" | tr '\n' ' ')" = "$(cat "$out/program.expected") "
-program README.md "From C" "    "
-check "that of the README compiles" cc -std=c99 $strict -Iinclude "$out/program.c" $library -o "$out/program"
-check "and prints the events" test "$("$out/program" | tr '\n' ' ')" = "$(cat "$out/program.expected") "
 told
 [ "$all_failed" -eq 0 ]

@@ -173,7 +173,7 @@ ls tests/vectors >"$out/vectors"
 
 # What C and the tests define, and what the prover makes of each function, may be named as well.
 cat include/sgml.h tests/oracle/*.rs | tr -cs 'A-Za-z0-9_' '\n' | sort -u >"$out/elsewhere"
-printf '%s\n' Learnt Reads >>"$out/elsewhere"
+printf '%s\n' Learnt Reads Wired >>"$out/elsewhere"
 
 # faults DOCUMENT..: each thing said that is not so.
 faults() {

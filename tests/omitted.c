@@ -29,7 +29,7 @@ static void name_of(uint32_t element, char name[SGML_NAMELEN + 1])
     static uint8_t records[SGML_MOST_RECORD_BYTES];
     uint32_t answer[SGML_ANSWER_SIZE];
     if (sgml_judge((const uint8_t *)type, strlen(type), records, sizeof records, answer, SGML_NAMELEN, SGML_FIRST_EDITION) == SGML_ACCEPTED)
-        sgml_copy_name((const uint8_t *)type, records, element, name, SGML_NAMELEN + 1);
+        sgml_copy_name((const uint8_t *)type, records, answer[SGML_ANSWER_COUNT], element, name, SGML_NAMELEN + 1);
 }
 
 /* What the small program prints of the type file and the document at hand. */

@@ -1,5 +1,5 @@
-# The examples of docs/RULES.md: each damaged file gives the message that stands under it, each mended one is accepted, and every
-# refusal number has an example.
+# The examples of docs/RULES.md and of the manual page: each damaged file gives the message that stands under it, each mended one is
+# accepted, commands print what stands under them, and every refusal number has an example.
 set -eu
 cd "$(dirname "$0")/.."
 export LC_ALL=C
@@ -53,6 +53,11 @@ block() {
         held "the status $status" test "$status" -eq 1
         seen="$seen $(sed -n 's/.* \[\([0-9]*\)\]$/\1/p; s/^refused \([0-9]*\) .*/\1/p' "$out/block")"
         ;;
+    printed)
+        run
+        held "what is printed" diff "$out/said" "$out/block"
+        held "the status $status" test "$status" -eq 0
+        ;;
     mended-*)
         run
         held "the mended file" accepted
@@ -71,7 +76,7 @@ while IFS= read -r line; do
     esac
 done <docs/RULES.md
 where="the numbers"
-for number in $(seq 19) 23 24 25; do
+for number in $(seq 25); do
     held "$number has an example" grep -qw "$number" <<<"$seen"
     held "$number is in the table" grep -q "^| \[$number\](#$number-" docs/RULES.md
 done
@@ -86,5 +91,24 @@ for name in TYPE_LIMIT DOCUMENT_LIMIT ELEMENT_LIMIT NAMELEN MOST_NAMELEN GRPCNT 
     held "$name in docs/RULES.md" grep -q "^| $what.* | $number | [0-9]* |$" docs/RULES.md
     held "$name in command/sgml.1" grep -q "^$what[a-z ]*  $number$" command/sgml.1
 done
+# The examples of the manual page: what is printed, and where and by which number a document is refused.
+where="the manual page"
+mkdir "$out/page"
+cp examples/cabinet.type "$out/page"
+awk '/^\.nf/ { on = 1; next } /^\.fi/ { on = 0 } on' command/sgml.1 | sed 's/\\-/-/g; s/\\fB//; s/\\fP//' >"$out/page/text"
+for n in $(seq "$(grep -c '^\$ ' "$out/page/text")"); do
+    awk -v wanted="$n" '/^\$ / { n++; next } n == wanted' "$out/page/text" >"$out/page/expected"
+    (cd "$out/page" && bash -c "$(sed -n 's/^\$ //p' text | sed -n "${n}p")") >"$out/page/printed" 2>&1 || true
+    if grep -q '^events' "$out/page/expected"; then
+        held "example $n" diff "$out/page/printed" "$out/page/expected"
+    else
+        held "example $n" test "$(sed 's/ .* / /' "$out/page/printed")" = "$(tr '\n' ' ' <"$out/page/expected" | sed 's/ $//; s/ .* / /')"
+    fi
+done
+held "there are two examples" test "$n" = 2
+
+version=$(sed -n 's/^#define SGML_VERSION "\(.*\)"/\1/p' include/sgml.h)
+held "the version $version in command/sgml.1" grep -q "^\.TH SGML 1 \"20[0-9-]*\" \"sgml $version\" " command/sgml.1
+held "and in CHANGELOG.md, with a date" grep -q "^## $version, 20[0-9][0-9]-[0-9][0-9]-[0-9][0-9]$" CHANGELOG.md
 echo "$passed passed, $failed failed"
 [ "$failed" -eq 0 ]

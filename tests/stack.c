@@ -1,13 +1,17 @@
 /* stack.c - how much stack a call takes: each runs in a thread whose stack was painted before, and then in one that has no more than
- * the header promises, above a page that may not be touched. The types have models as deep as they may be, which is where the judge and
- * the reader go deepest; names may be as long as they ever may. */
+ * the header promises for it, above a page that may not be touched. With less, down to two pages, a call is killed by SIGSEGV at that
+ * page, and what lies below it is as it was. The types have models as deep as they may be, which is where the judge and the reader go
+ * deepest; names may be as long as they ever may. */
 #define _GNU_SOURCE
 #include "sgml.h"
 #include <pthread.h>
 #include <stdio.h>
 #include <stdlib.h>
 #include <string.h>
+#include <signal.h>
 #include <sys/mman.h>
+#include <sys/resource.h>
+#include <sys/wait.h>
 #include <unistd.h>
 
 #define STACK (512 * 1024)
@@ -100,25 +104,82 @@ static size_t used(void *(*function)(void *), void *argument, size_t size)
     return size - i;
 }
 
-/* How much a call takes beside what its thread does; and it runs in what the header promises. */
-static size_t taken(void *(*function)(void *))
+static uint8_t buffer[ROOM];
+
+/* The most that a call is promised to take. */
+static size_t promised(void *(*function)(void *))
 {
-    static uint8_t buffer[ROOM];
-    size_t thread = used(nothing, NULL, STACK), most = used(function, buffer, STACK) - thread;
-    if (most == 0 || most > SGML_STACK_BYTES) {
-        printf("a call takes %zu bytes of stack; the limit is %d\n", most, SGML_STACK_BYTES);
-        wrong = 1;
-        return most;
-    }
-    used(function, buffer, (SGML_STACK_BYTES + thread + 4095) / 4096 * 4096);
-    return most;
+    return function == judge_call || function == list_call ? SGML_JUDGE_STACK_BYTES : SGML_STACK_BYTES;
 }
 
-int main(void)
+/* How much a call takes beside what its thread does, and `most` so far; and it runs in what the header promises. */
+static void take(void *(*function)(void *), size_t *most)
+{
+    size_t thread = used(nothing, NULL, STACK), own = used(function, buffer, STACK) - thread;
+    if (own > *most)
+        *most = own;
+    if (own == 0 || own > promised(function)) {
+        printf("a call takes %zu bytes of stack; the limit is %zu\n", own, promised(function));
+        wrong = 1;
+        return;
+    }
+    used(function, buffer, (promised(function) + thread + 4095) / 4096 * 4096);
+}
+
+/* In a process of its own: a call in a thread with `size` bytes of stack, above a page that may not be touched, below which lies as much
+ * as a call takes at most, shared with this process. It ends by SIGSEGV, and nothing is written there. */
+static void check_killed(void *(*function)(void *), size_t size)
+{
+    size_t page = (size_t)sysconf(_SC_PAGESIZE), i = 0;
+    uint8_t *low = mmap(NULL, STACK + page + size, PROT_READ | PROT_WRITE, MAP_SHARED | MAP_ANONYMOUS, -1, 0);
+    int status = 0;
+    pid_t child;
+    if (low == MAP_FAILED || mprotect(low + STACK, page, PROT_NONE)) {
+        perror("a stack");
+        exit(1);
+    }
+    memset(low, PAINT, STACK);
+    fflush(stdout);
+    child = fork();
+    if (child == 0) {
+        struct rlimit none = { 0, 0 };
+        pthread_attr_t attributes;
+        pthread_t thread;
+        setrlimit(RLIMIT_CORE, &none);
+        pthread_attr_init(&attributes);
+        if (pthread_attr_setstack(&attributes, low + STACK + page, size) || pthread_create(&thread, &attributes, function, buffer))
+            _exit(1);
+        pthread_join(thread, NULL);
+        _exit(0);
+    }
+    if (child < 0 || waitpid(child, &status, 0) != child || !WIFSIGNALED(status) || WTERMSIG(status) != SIGSEGV) {
+        printf("a call with %zu bytes of stack ended with status %d\n", size, status);
+        wrong = 1;
+    }
+    while (i < STACK && low[i] == PAINT)
+        i++;
+    if (i < STACK) {
+        printf("a call with %zu bytes of stack wrote below its guard page\n", size);
+        wrong = 1;
+    }
+    munmap(low, STACK + page + size);
+}
+
+/* A call that takes `most` bytes, with every size of stack that a thread may have and that is less. */
+static int check_less(void *(*function)(void *), size_t most)
+{
+    size_t size = (size_t)sysconf(_SC_THREAD_STACK_MIN), page = (size_t)sysconf(_SC_PAGESIZE);
+    int tried = 0;
+    for (size = (size + page - 1) / page * page; size + page <= most; size += 2 * page, tried++)
+        check_killed(function, size);
+    return tried;
+}
+
+/* The type with as many levels, tokens and elements as there may be. */
+static void make_wide(void)
 {
     int level, k;
-    size_t judging, reading, batch, chain;
-    /* as many levels, tokens and elements as there may be */
+    type_len = 0;
     for (k = 0; k < SGML_ELEMENT_LIMIT; k++) {
         type_len += (size_t)sprintf(type + type_len, "<!ELEMENT E%d - O ", k);
         text("(", SGML_GRPLVL);
@@ -126,14 +187,12 @@ int main(void)
             type_len += (size_t)sprintf(type + type_len, "%cA%d,B%d,C%d)+", level ? ',' : ' ', level, level, level);
         text(">", 1);
     }
-    expected = SGML_ACCEPTED;
-    judging = taken(judge_call);
-    expected = SGML_ERR_NOT_ALLOWED_HERE;
-    document = "<E0><E1>";
-    reading = taken(read_call);
-    batch = taken(batch_call);
+}
 
-    /* as many elements open as there may be, all inferred, in models of as many levels */
+/* The type under which as many elements are open as there may be, all inferred, in models of as many levels. */
+static void make_deep(void)
+{
+    int k;
     type_len = 0;
     for (k = 0; k < SGML_TAGLVL; k++) {
         type_len += (size_t)sprintf(type + type_len, "<!ELEMENT E%d O O ", k);
@@ -145,35 +204,52 @@ int main(void)
         text(")", SGML_GRPLVL);
         text(">", 1);
     }
-    expected = SGML_ACCEPTED;
-    document = "x<!-- -->y</E20>";
-    chain = taken(read_call);
-    if (chain > reading)
-        reading = chain;
-    chain = taken(batch_call);
-    if (chain > batch)
-        batch = chain;
+}
 
-    /* attributes with a group of as many tokens as there may be, and defaults before each inferred start */
+/* Attributes for it, with a group of as many tokens as there may be, and defaults before each inferred start. */
+static void add_lists(void)
+{
+    int k, token;
     for (k = 0; k < SGML_TAGLVL; k++) {
         type_len += (size_t)sprintf(type + type_len, "<!ATTLIST E%d A%s", k, k ? "" : "(");
-        for (level = 0; !k && level < SGML_GRPCNT; level++)
-            type_len += (size_t)sprintf(type + type_len, "%sT%d", level ? "|" : "", level);
+        for (token = 0; !k && token < SGML_GRPCNT; token++)
+            type_len += (size_t)sprintf(type + type_len, "%sT%d", token ? "|" : "", token);
         text(k ? " CDATA 'x'" : ")'t31' B NUMBER '1' C NAME #IMPLIED", 1);
         text(">", 1);
     }
-    chain = taken(read_call);
-    if (chain > reading)
-        reading = chain;
-    chain = taken(batch_call);
-    if (chain > batch)
-        batch = chain;
-    chain = taken(list_call);
-    if (chain > judging)
-        judging = chain;
-    chain = taken(judge_call);
-    if (chain > judging)
-        judging = chain;
-    printf("a call that judges a type takes %zu bytes of stack, one of the reader %zu, a batch %zu; the limit is %d\n", judging, reading, batch, SGML_STACK_BYTES);
-    return wrong;
+}
+
+int main(void)
+{
+    size_t judging = 0, listing = 0, reading = 0, batch = 0;
+    int tried;
+    make_wide();
+    expected = SGML_ACCEPTED;
+    take(judge_call, &judging);
+    take(list_call, &listing);
+    expected = SGML_ERR_NOT_ALLOWED_HERE;
+    document = "<E0><E1>";
+    take(read_call, &reading);
+    take(batch_call, &batch);
+
+    make_deep();
+    expected = SGML_ACCEPTED;
+    document = "x<!-- -->y</E20>";
+    take(read_call, &reading);
+    take(batch_call, &batch);
+
+    add_lists();
+    take(read_call, &reading);
+    take(batch_call, &batch);
+    take(list_call, &listing);
+    take(judge_call, &judging);
+    printf("bytes of stack: the judge %zu, the list of attributes %zu, at most %d; the reader %zu, a batch %zu, at most %d\n", judging, listing,
+           SGML_JUDGE_STACK_BYTES, reading, batch, SGML_STACK_BYTES);
+
+    /* the same type, judged to its deepest, and read */
+    tried = check_less(read_call, reading) + check_less(batch_call, batch);
+    make_wide();
+    tried += check_less(judge_call, judging) + check_less(list_call, listing);
+    printf("killed by SIGSEGV with less stack: %d of %d\n", wrong ? 0 : tried, tried);
+    return wrong || !tried;
 }

@@ -292,7 +292,8 @@ static void check_longer(struct slice type, struct slice document, size_t room, 
     name_length = given;
 }
 
-/* The document in two parts, a part that passes the end and the whole, in one batch beside the single calls. The stretches stand in another order. */
+/* The document in two parts, a part that passes the end and the whole, in one batch beside the single calls. The stretches stand in another order. Settings that
+ * no call takes refuse all of it. */
 static void check_batch(struct slice type, struct slice document)
 {
     enum { ROOM = 4096, PARTS = 4 };
@@ -300,13 +301,20 @@ static void check_batch(struct slice type, struct slice document)
     size_t cut = document.length ? document.bytes[0] % (document.length + 1) : 0, k;
     size_t starts[PARTS] = { 0, cut, cut, 0 }, lengths[PARTS] = { cut, document.length - cut, document.length - cut + 1, document.length };
     size_t froms[PARTS] = { 3 * ROOM, 7, 2 * ROOM, ROOM }, sizes[PARTS] = { ROOM, ROOM - 7, cut % ROOM, ROOM };
-    uint32_t answers[PARTS * SGML_ANSWER_SIZE], answer[SGML_ANSWER_SIZE], own[SGML_ANSWER_SIZE];
-    int offered = SGML_NAMELEN <= name_length && name_length <= SGML_MOST_NAMELEN;
+    uint32_t answers[PARTS * SGML_ANSWER_SIZE], answer[SGML_ANSWER_SIZE], own[SGML_ANSWER_SIZE], number;
     memset(buffer, FILL, sizeof buffer);
+    memset(answers, FILL, sizeof answers);
     memset(expected, FILL, sizeof expected);
-    must(sgml_read_batch(type.bytes, type.length, document.bytes, document.length, starts, PARTS, lengths, PARTS, buffer, sizeof buffer, froms, PARTS, sizes, PARTS,
-                         answers, PARTS * SGML_ANSWER_SIZE, answer, name_length, edition) == (offered ? SGML_ACCEPTED : SGML_ERR_SETTINGS), "the lists are fit");
-    must(answer[SGML_ANSWER_COUNT] == (offered ? PARTS : 0), "a batch says how many documents it has");
+    number = sgml_read_batch(type.bytes, type.length, document.bytes, document.length, starts, PARTS, lengths, PARTS, buffer, sizeof buffer, froms, PARTS, sizes, PARTS,
+                             answers, PARTS * SGML_ANSWER_SIZE, answer, name_length, edition);
+    if (name_length < SGML_NAMELEN || SGML_MOST_NAMELEN < name_length) {
+        must(number == SGML_ERR_SETTINGS && answer[SGML_ANSWER_COUNT] == 0, "a length of names that is not offered refuses a batch");
+        must(all(buffer, sizeof buffer, 0), "24 zeroes the buffer");
+        must(all((const uint8_t *)answers, sizeof answers, FILL), "24 leaves the answers as they were");
+        return;
+    }
+    must(number == SGML_ACCEPTED, "the lists are fit");
+    must(answer[SGML_ANSWER_COUNT] == PARTS, "a batch says how many documents it has");
     for (k = 0; k < PARTS; k++) {
         static const uint8_t none[SGML_DOCUMENT_LIMIT + 1];
         must(sgml_read(type.bytes, type.length, k == 2 ? none : document.bytes + starts[k], k == 2 ? sizeof none : lengths[k], expected + froms[k], sizes[k], own, name_length, edition) == own[0],
@@ -316,7 +324,7 @@ static void check_batch(struct slice type, struct slice document)
     must(!memcmp(buffer, expected, sizeof buffer), "a batch leaves in its stretches what the single calls do, and the rest as it was");
     froms[1]++;
     must(sgml_read_batch(type.bytes, type.length, document.bytes, document.length, starts, PARTS, lengths, PARTS, buffer, sizeof buffer, froms, PARTS, sizes, PARTS,
-                         answers, PARTS * SGML_ANSWER_SIZE, answer, name_length, edition) == (offered ? SGML_ERR_BATCH : SGML_ERR_SETTINGS),
+                         answers, PARTS * SGML_ANSWER_SIZE, answer, name_length, edition) == SGML_ERR_BATCH,
          "one byte in two stretches is 23");
     must(all(buffer, sizeof buffer, 0), "23 zeroes the buffer");
 }

@@ -150,11 +150,8 @@ fn numbers_of(answer: &Answer) -> [u32; 6] {
     [answer.number, answer.input, answer.position, answer.first, answer.second, answer.count]
 }
 
-/// The answer to a document that is too long, or that passes the string's end.
-fn too_long(batch: &Batch) -> [u32; 6] {
-    if !is_offered(batch) {
-        return [24, 1, 0, 0, 0, 0];
-    }
+/// The answer to a part that passes the string's end.
+fn passing(batch: &Batch) -> [u32; 6] {
     if batch.type_file.len() > TYPE_BYTES {
         return [1, 1, 0, 0, 0, 0];
     }
@@ -165,7 +162,7 @@ fn too_long(batch: &Batch) -> [u32; 6] {
 fn single(batch: &Batch, k: usize, before: &[u8]) -> ([u32; 6], Vec<u8>) {
     let (start, length) = (batch.lists.starts[k], batch.lists.lengths[k]);
     if start as u128 + length as u128 > batch.string.len() as u128 {
-        return (too_long(batch), vec![0; before.len()]);
+        return (passing(batch), vec![0; before.len()]);
     }
     let mut numbers = vec![0; before.len() / 4];
     let answer = oracle::read(batch.settings, &batch.type_file, &batch.string[start..start + length], &mut numbers);
@@ -183,9 +180,14 @@ fn differs(batch: &Batch, pattern: u8, numbers: &mut BTreeMap<u32, usize>) -> bo
     let (mut buffer, mut answers, mut answer) = (vec![pattern; batch.room], vec![u32::MAX; batch.answers], [u32::MAX; 6]);
     let (mut expected, mut each) = (buffer.clone(), answers.clone());
     let returned = library::read_batch(batch.settings, &batch.type_file, &batch.string, &batch.lists, &mut buffer, &mut answers, &mut answer);
-    let whole = if is_unfit(batch) {
+    let refusal = match (is_offered(batch), is_unfit(batch)) {
+        (false, _) => Some(24),
+        (true, true) => Some(23),
+        (true, false) => None,
+    };
+    let whole = if let Some(number) = refusal {
         expected.fill(0);
-        [if is_offered(batch) { 23 } else { 24 }, 1, 0, 0, 0, 0]
+        [number, 1, 0, 0, 0, 0]
     } else {
         for k in 0..batch.lists.starts.len() {
             let stretch = batch.lists.froms[k]..batch.lists.froms[k] + batch.lists.sizes[k];
@@ -194,7 +196,7 @@ fn differs(batch: &Batch, pattern: u8, numbers: &mut BTreeMap<u32, usize>) -> bo
             expected[stretch].copy_from_slice(&after);
             each[6 * k..6 * k + 6].copy_from_slice(&own);
         }
-        if is_offered(batch) { [0, 0, 0, 0, 0, batch.lists.starts.len() as u32] } else { [24, 1, 0, 0, 0, 0] }
+        [0, 0, 0, 0, 0, batch.lists.starts.len() as u32]
     };
     *numbers.entry(whole[0]).or_default() += 1;
     returned != whole[0] || answer != whole || answers != each || buffer != expected

@@ -4,9 +4,11 @@
 
 use crate::oracle::Settings;
 
-/// The only declaration of the C interface here.
+/// The only declaration of the C interface here. The names that the library exports have the number of the binary interface
+/// (`SGML_ABI` of the header).
 mod c {
     extern "C" {
+        #[link_name = "sgml_judge_abi9"]
         pub fn sgml_judge(
             type_file: *const u8,
             type_length: usize,
@@ -16,6 +18,7 @@ mod c {
             name_length: u32,
             edition: u32,
         ) -> u32;
+        #[link_name = "sgml_attributes_abi9"]
         pub fn sgml_attributes(
             type_file: *const u8,
             type_length: usize,
@@ -25,6 +28,7 @@ mod c {
             name_length: u32,
             edition: u32,
         ) -> u32;
+        #[link_name = "sgml_read_abi9"]
         pub fn sgml_read(
             type_file: *const u8,
             type_length: usize,
@@ -36,6 +40,7 @@ mod c {
             name_length: u32,
             edition: u32,
         ) -> u32;
+        #[link_name = "sgml_read_batch_abi9"]
         pub fn sgml_read_batch(
             type_file: *const u8,
             type_length: usize,

@@ -1319,7 +1319,7 @@ enum Token {
 #[derive(Clone, Copy, PartialEq)]
 enum Thing {
     Markup,
-    /// A byte 10, or a byte 13 that wouldn't be data.
+    /// A byte 10, or a byte 13 that wouldn't be data (open point 18).
     Boundary,
     /// A byte 13 that would be data, at its offset.
     RecordEnd(usize),
@@ -1350,7 +1350,7 @@ fn is_after_markup(before: &[Thing]) -> bool {
 }
 
 /// "It is the last and no data or subelement follows": a byte 13 that is ignored by what came before it is
-/// not there for this (point 20).
+/// not there for this (open point 17).
 fn last(content: &[Thing]) -> Option<usize> {
     for (index, thing) in content.iter().enumerate().rev() {
         let before = &content[..index];

@@ -10,7 +10,7 @@ use layout::ANSWER;
 
 // The type judge.
 #[unsafe(no_mangle)]
-pub extern "C" fn sgml_judge(
+pub extern "C" fn sgml_judge_abi9(
     type_file: &[u8],
     buffer: &mut [u8],
     answer: &mut [u32; ANSWER],
@@ -24,7 +24,7 @@ pub extern "C" fn sgml_judge(
 
 // The document reader.
 #[unsafe(no_mangle)]
-pub extern "C" fn sgml_read(
+pub extern "C" fn sgml_read_abi9(
     type_file: &[u8],
     document: &[u8],
     buffer: &mut [u8],
@@ -39,7 +39,7 @@ pub extern "C" fn sgml_read(
 
 // The attributes of a type.
 #[unsafe(no_mangle)]
-pub extern "C" fn sgml_attributes(
+pub extern "C" fn sgml_attributes_abi9(
     type_file: &[u8],
     buffer: &mut [u8],
     answer: &mut [u32; ANSWER],
@@ -53,7 +53,7 @@ pub extern "C" fn sgml_attributes(
 
 // The documents of a batch.
 #[unsafe(no_mangle)]
-pub extern "C" fn sgml_read_batch(
+pub extern "C" fn sgml_read_batch_abi9(
     type_file: &[u8],
     string: &[u8],
     starts: &[usize],
