@@ -201,11 +201,11 @@ module _ {c : Settings} {s elements index rows places facts M lists d begun numb
       )
 
 -- What stands where reading has come to is refused, whatever is open.
-pub piece_refuses : {c : Settings} {s elements index rows places facts M lists d begun numbers numbers_now bytes bytes_now : List ℕ} {n at since mark from : ℕ} {o : OpenElements} {p : Result Found Fault} {marks : List ℕ}
+pub piece_refuses : {c : Settings} {s elements index rows places facts M lists d begun numbers numbers_now bytes bytes_now : List ℕ} {n at since mark from : ℕ} {o : OpenElements} {p : Result Found Fault} (marks : List ℕ)
     → Going c s elements index rows places facts M lists d begun numbers numbers_now bytes bytes_now n at since mark from o → at < length d
     → ((es : List Element) → Indexed s es elements index → Lists c.name_length s es lists → Finds c.name_length s es d at p marks) → {f : Fault} → p ≡ Err f
     → (es : List Element) → Indexed s es elements index → Tables s es rows places facts M → Lists c.name_length s es lists → document c s es (decided s es) d ≡ refused f.number f.at
-piece_refuses {c} {s} {d = d} {at = at} {since = since} {mark = mark} g inside said {f} q es i t l =
+piece_refuses {c} {s} {d = d} {at = at} {since = since} {mark = mark} marks g inside said {f} q es i t l =
     let came = g.any es i t l in
     refused_unread c s es d at (line_of since mark) came.state inside came.reaches f.number f.at (rw q at (said es i l))
 

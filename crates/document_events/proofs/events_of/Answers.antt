@@ -80,7 +80,7 @@ found_at-requires c =
     (p.0, p.1, omega (arith, c.loop-at-test.true), p.2, p.3)
 
 pub returns-in_err-p : goal.returns-in_err-p
-returns-in_err-p c = rw (passed_on _ c.from_residual.ensures.1) (piece_refuses c.loop-at.invariant (omega (arith, c.loop-at-test.true)) c.found_at.ensures.finds c.in_err-p.was)
+returns-in_err-p c = rw (passed_on _ c.from_residual.ensures.1) (piece_refuses c.found_at.new.marks c.loop-at.invariant (omega (arith, c.loop-at-test.true)) c.found_at.ensures.finds c.in_err-p.was)
 
 pub next_at-requires : goal.next_at-requires
 next_at-requires c =
