@@ -1,5 +1,5 @@
 -- What the events of a document are, and what the loop over its tokens leaves, in the rules' terms.
-use Rattle.std.specs.Prelude.{ℕ, ◌*◌, ◌≤◌, ◌<◌, ◌≡◌, List, length, Result, Ok, Err}
+use Rattle.std.specs.Prelude.{ℕ, ◌+◌, ◌*◌, ◌≤◌, ◌<◌, ◌≡◌, List, length, Result, Ok, Err}
 use Rattle.rules.specs.Settings.{Settings}
 use Rattle.rules.specs.Reading.{refused, got}
 use Rattle.rules.specs.TypeFile.{Element}
@@ -33,6 +33,12 @@ EventsOf c s es d numbers numbers_after bytes bytes_after (Ok n) =
     (ev : List Event) × (document c s es (decided s es) d ≡ got ev) × (n ≡ length ev) × Written numbers numbers_after (event_numbers ev) ×
     Written bytes bytes_after (bytes_of (event_numbers ev)) × (n < 4294967296)
 EventsOf c s es d numbers numbers_after bytes bytes_after (Err f) = document c s es (decided s es) d ≡ refused f.number f.at
+
+-- Whatever the tables hold: where it is not refused there are so many events at most. A token takes at least a
+-- byte, and brings at most 1050 events.
+abbrev pub Counted : (d : List ℕ) → Result ℕ Fault → Type 0
+Counted d (Ok n) = n ≤ MOST_EVENTS * (length d + 1)
+Counted d (Err f) = Unit {0}
 
 -- What a token that stands at `at`, up to `after`, has come to: reading goes on behind it with a state for which the open elements stand, by what has begun, and
 -- which has these events, or the document is refused there. The last run of data began at `from`, and where a byte 10 or 13 was ignored before is marked.

@@ -1,5 +1,5 @@
 -- The loop over a document's tokens: what a turn leaves, and what the document reads as where the loop ends.
-use Rattle.std.specs.Prelude.{ℕ, zero, suc, ◌+◌, ◌-◌, ◌≤◌, ◌<◌, ◌≡◌, refl, Bool, true, List, ◌++◌, length, Result, Ok, Err}
+use Rattle.std.specs.Prelude.{ℕ, zero, suc, ◌+◌, ◌*◌, ◌-◌, ◌≤◌, ◌<◌, ◌≡◌, refl, Bool, true, List, ◌++◌, length, Result, Ok, Err}
 use Rattle.std.proofs.Common.{sym, ◌∙◌, ap, subst, arith}
 use Rattle.rules.specs.Settings.{Settings}
 use Rattle.rules.specs.Bytes.{byte_at, MDC, TAGLVL, document_limit, element_limit}
@@ -199,6 +199,10 @@ module _ {c : Settings} {s elements index rows places facts M lists d begun numb
         has.holds.bytes_hold,
         omega (arith, b.counted, t.few, g.few, g.inside),
       )
+
+  -- Whatever the tables hold, there are so many events.
+  pub end_counted : {r : Outcome} {numbers' bytes' : List ℕ} → FinishedGot facts at n o numbers_now bytes_now r numbers' bytes' → r.events ≤ MOST_EVENTS * (length d + 1)
+  end_counted t = omega (arith, t.brings.counted, t.few, g.few, g.inside)
 
 -- What stands where reading has come to is refused, whatever is open.
 pub piece_refuses : {c : Settings} {s elements index rows places facts M lists d begun numbers numbers_now bytes bytes_now : List ℕ} {n at since mark from : ℕ} {o : OpenElements} {p : Result Found Fault} (marks : List ℕ)

@@ -20,7 +20,7 @@ use Rattle.settling.specs.Tokens.{refuses_over, refuses_many, refuses_placed, se
 use Rattle.record_ends.specs.Held.{is_held, shown_end, Frees}
 use Rattle.record_ends.specs.Freeing.{frees_same, shown_range}
 use Rattle.blanks.specs.declared.Next.TheVariants as next
-use Rattle.document_events.specs.Turns.{going_start, Turn, piece_refuses, token_asked, token_range, token_refuses, going_token, end_tag_refuses, going_end, going_passed, end_refuses, end_counts}
+use Rattle.document_events.specs.Turns.{going_start, Turn, piece_refuses, token_asked, token_range, token_refuses, going_token, end_tag_refuses, going_end, going_passed, end_refuses, end_counts, end_counted}
 use Rattle.document_events.proofs.events_of.Goals as goal
 use Rattle.document_events.proofs.events_of.Goals.{After-next_at, After-ends-f, Joined-starts-eq0, Joined-t-ne0, then-starts-eq0, else-starts-eq0+else-o-starts-gt-TAGLVL, then-t-ne0, else-t-ne0, then-opens, else-opens}
 
@@ -79,8 +79,8 @@ found_at-requires c =
     let p = c.requires in
     (p.0, p.1, omega (arith, c.loop-at-test.true), p.2, p.3)
 
-pub returns-in_err-p : goal.returns-in_err-p
-returns-in_err-p c = rw (passed_on _ c.from_residual.ensures.1) (piece_refuses c.found_at.new.marks c.loop-at.invariant (omega (arith, c.loop-at-test.true)) c.found_at.ensures.finds c.in_err-p.was)
+pub returns-in_err-p-clause-by_type : goal.returns-in_err-p-clause-by_type
+returns-in_err-p-clause-by_type c = rw (passed_on _ c.from_residual.ensures.1) (piece_refuses c.found_at.new.marks c.loop-at.invariant (omega (arith, c.loop-at-test.true)) c.found_at.ensures.finds c.in_err-p.was)
 
 pub next_at-requires : goal.next_at-requires
 next_at-requires c =
@@ -88,9 +88,9 @@ next_at-requires c =
     let p = c.requires in
     (p.0, g.ranged.few, g.ranged.element, g.ranged.place, omega (arith, c.loop-at-test.true), p.2, g.since_inside, c.in_ok-p.ensures.onward)
 
-pub returns-then-is_over : goal.returns-then-is_over
-returns-then-is_over c =
-    token_refuses (at_turn (goal.at.returns-then-is_over c).After-next_at) {shown = shown_end c.args.t.edition c.args.d.now c.in-Token.after} c.in-Token.is refl
+pub returns-then-is_over-clause-by_type : goal.returns-then-is_over-clause-by_type
+returns-then-is_over-clause-by_type c =
+    token_refuses (at_turn (goal.at.returns-then-is_over-clause-by_type c).After-next_at) {shown = shown_end c.args.t.edition c.args.d.now c.in-Token.after} c.in-Token.is refl
     (refuses_over _ _ _ _ _ _ _ _ _ (λ s es z stands. sym (over_says s stands) ∙ sym c.is_over.ensures ∙ c.if-is_over.true)) c.at.ensures
 
 pub ends-f-requires : goal.ends-f-requires
@@ -98,9 +98,9 @@ ends-f-requires c =
     let a = token_asked (at_turn (goal.at.ends-f-requires c).After-next_at) c.requires.2 c.in-Token.is in
     (a.0, a.1, omega (arith, a.2, a.3), omega (arith, a.4))
 
-pub returns-then-o-starts-gt-TAGLVL : goal.returns-then-o-starts-gt-TAGLVL
-returns-then-o-starts-gt-TAGLVL c =
-    let g = goal.at.returns-then-o-starts-gt-TAGLVL c in
+pub returns-then-o-starts-gt-TAGLVL-clause-by_type : goal.returns-then-o-starts-gt-TAGLVL-clause-by_type
+returns-then-o-starts-gt-TAGLVL-clause-by_type c =
+    let g = goal.at.returns-then-o-starts-gt-TAGLVL-clause-by_type c in
     let t = at_turn g.After-next_at in
     token_refuses t {shown = shown_end c.args.t.edition c.args.d.now c.in-Token.after} (is_token g.After-ends-f) refl
     (refuses_many (shown_end c.args.t.edition c.args.d.now c.in-Token.after) t.going.ranged.few (on g.After-ends-f) c.ends-f.ensures (omega (arith, c.if-o-starts-gt-TAGLVL.true, c.starts_of-starts.ensures)))
@@ -127,9 +127,9 @@ placed-requires c =
     let room : c.loop-k.m + (ATTCNT + 2) < 4294967296 = omega (arith, i.counted, i.few, i.most, limit g.Joined-starts-eq0, e.deep, a.0.few, a.4) in
     (i.ranged, c.ends-f.ensures.fits, a.1, h.0, omega (arith, h.1, a.3), omega (arith, room, f.counted, f.few))
 
-pub returns-in-Err : goal.returns-in-Err
-returns-in-Err c =
-    let g = goal.at.returns-in-Err c in
+pub returns-in-Err-clause-by_type : goal.returns-in-Err-clause-by_type
+returns-in-Err-clause-by_type c =
+    let g = goal.at.returns-in-Err-clause-by_type c in
     let t = at_turn g.After-next_at in
     token_refuses t (is_token g.After-ends-f) c.shown_end-shown.ensures
     (refuses_placed c.shown_end-shown.result t.going.ranged.few (on g.After-ends-f) c.ends-f.ensures c.starts_of-starts.ensures (limit g.Joined-starts-eq0) c.loop-k.invariant c.loop-k-test.false c.in-Err.ensures)
@@ -150,8 +150,8 @@ loop-at-preserved-in-Token c =
     (attributed g.Joined-t-ne0) opened in
     rw (c.taken-line.ensures.0, c.taken-line.ensures.1) (going_token t (is_token g.After-ends-f) c.shown_end-shown.ensures c.ends-f.ensures (joined g.Joined-starts-eq0) s)
 
-pub returns-in-Err-end_tag : goal.returns-in-Err-end_tag
-returns-in-Err-end_tag c = end_tag_refuses (at_turn (goal.at.returns-in-Err-end_tag c).After-next_at) c.in-End.is c.in-Err-end_tag.ensures c.at-in-Err-end_tag.ensures
+pub returns-in-Err-end_tag-clause-by_type : goal.returns-in-Err-end_tag-clause-by_type
+returns-in-Err-end_tag-clause-by_type c = end_tag_refuses (at_turn (goal.at.returns-in-Err-end_tag-clause-by_type c).After-next_at) c.in-End.is c.in-Err-end_tag.ensures c.at-in-Err-end_tag.ensures
 
 pub loop-at-preserved-in-End : goal.loop-at-preserved-in-End
 loop-at-preserved-in-End c =
@@ -160,8 +160,14 @@ loop-at-preserved-in-End c =
 pub loop-at-preserved : goal.loop-at-preserved
 loop-at-preserved c = rw c.marked-line.ensures.0 (going_passed (at_turn (goal.at.loop-at-preserved c).After-next_at) c.in-Passed.is c.marked-line.ensures.1)
 
-pub returns-in-Ok-finish : goal.returns-in-Ok-finish
-returns-in-Ok-finish c = end_counts c.loop-at.invariant (omega (arith, c.loop-at-test.false)) c.in-Ok-finish.ensures c.requires.2
+pub returns-in-Ok-finish-clause-by_type : goal.returns-in-Ok-finish-clause-by_type
+returns-in-Ok-finish-clause-by_type c = end_counts c.loop-at.invariant (omega (arith, c.loop-at-test.false)) c.in-Ok-finish.ensures c.requires.2
 
-pub returns-in-Err-finish : goal.returns-in-Err-finish
-returns-in-Err-finish c = end_refuses c.loop-at.invariant (omega (arith, c.loop-at-test.false)) c.in-Err-finish.ensures c.at-in-Err-finish.ensures
+pub returns-in-Err-finish-clause-by_type : goal.returns-in-Err-finish-clause-by_type
+returns-in-Err-finish-clause-by_type c = end_refuses c.loop-at.invariant (omega (arith, c.loop-at-test.false)) c.in-Err-finish.ensures c.at-in-Err-finish.ensures
+
+pub returns-in_err-p-clause-counted : goal.returns-in_err-p-clause-counted
+returns-in_err-p-clause-counted c = rw (passed_on _ c.from_residual.ensures.1) tt
+
+pub returns-in-Ok-finish-clause-counted : goal.returns-in-Ok-finish-clause-counted
+returns-in-Ok-finish-clause-counted c = end_counted c.loop-at.invariant (omega (arith, c.loop-at-test.false)) c.in-Ok-finish.ensures
