@@ -23,4 +23,4 @@ returns c =
     let t = c.args.t in
     let (b, e) = c.in_ok-in_order.ensures (settings t.long t.edition) t.file.now t.elements.now c.requires.heads c.requires.staged in
     let (es, w, i, x, l) = tables_full _ c.requires e in
-    followed_answers (settings t.long t.edition) t.file.now c.args.d.now [] [] c.args.bytes.now c.follow.new.bytes b c.follow.result c.map_err.result (es, w, c.follow.ensures es i x l) c.map_err.ensures.cases
+    followed_answers (settings t.long t.edition) t.file.now c.args.d.now [] [] c.args.bytes.now c.follow.new.bytes b c.follow.result c.map_err.result (es, w, c.follow.ensures.by_type es i x l) c.map_err.ensures.cases

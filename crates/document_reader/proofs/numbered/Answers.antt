@@ -17,4 +17,4 @@ events_of-requires c =
 pub returns : goal.returns
 returns c =
     let (es, a, i, tables, l) = c.fill.ensures _ c.requires.0 in
-    (es, a, events_numbers (settings_of c.args.a.settings) c.args.a.file.now es c.args.d.now c.args.numbers.now c.events_of.new.numbers [] c.events_of.new.bytes c.events_of.result ((rw c.under-t.ensures at c.events_of.ensures) es i tables l))
+    (es, a, events_numbers (settings_of c.args.a.settings) c.args.a.file.now es c.args.d.now c.args.numbers.now c.events_of.new.numbers [] c.events_of.new.bytes c.events_of.result ((rw c.under-t.ensures at c.events_of.ensures.by_type) es i tables l))

@@ -26,4 +26,4 @@ follow-requires c =
 pub returns : goal.returns
 returns c =
     let (es, a, k, w, l) = c.requires.0 in
-    (es, a, (rw c.under-t.ensures at c.follow.ensures) es (c.fill_index.ensures _ es a k w) (c.fill.ensures _ es a k w) l)
+    (es, a, (rw c.under-t.ensures at c.follow.ensures.by_type) es (c.fill_index.ensures _ es a k w) (c.fill.ensures _ es a k w) l)
