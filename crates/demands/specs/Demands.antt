@@ -6,18 +6,18 @@
 -- many documents, Listed `ListKeeps` for one that lists attributes.
 use Rattle.std.specs.Prelude.{ℕ, Result, ◌-◌, ◌*◌, ◌<◌, ◌≤◌, ◌≡◌, true, false, ◌↔◌, List, [], ◌∷◌, ◌++◌, length, take, drop}
 use Rattle.std.proofs.Common.{sym, ◌∙◌, ap}
+use mathlib.Core.List.{Memᴰ}
 use contract.Lifetimes.{Lfts}
 use Rattle.std.specs.Borrow.{Bor}
 use denote.Triple.Clauses.{AtExit}
 use borrow.Fn.World.{ArgsD}
 use Rattle.rules.specs.Settings.{Settings, settings, is_offered}
-use Rattle.rules.specs.Bytes.{byte_at, AND}
 use Rattle.rules.specs.Lent.{Lent, room}
 use Rattle.rules.specs.Reading.{Reading, got}
-use Rattle.rules.specs.Walk.{Group}
+use Rattle.rules.specs.Walk.{Group, Guarded}
 use Rattle.rules.specs.Ambiguity.{Ambiguous, PairAtFault}
 use Rattle.rules.specs.TypeFile.{Place, Element, type_file}
-use Rattle.rules.specs.Judge.{same_place, Answer, refusal, first_repeated, Legible, Refuses, Accepts, Judged, record_width}
+use Rattle.rules.specs.Judge.{same_place, Answer, refusal, Legible, Refuses, Accepts, Judged, record_width}
 use Rattle.rules.specs.Events.{Event, event_width}
 use Rattle.rules.specs.Elements.{element_at}
 use Rattle.rules.specs.Given.{attributes_before, with_attributes, value_bytes}
@@ -33,9 +33,10 @@ use Rattle.acts.specs.Readings.{passes_acts, document_acts}
 use Rattle.acts.specs.Deeds.{acts_deeds}
 use Rattle.place_laws.specs.Stood.{stood}
 use Rattle.place_laws.specs.Pinned.{deeds_one}
-use Rattle.demands.specs.Words.{Refusal, Acceptance, ModelOf, SomeRepeated, SomeAmbiguous, NamesFirst, NamesDecide, ReaderRefusal, ReaderAcceptance, Quoted, NoneRequired, SameVerdict}
+use Rattle.demands.specs.Words.{Refusal, Acceptance, ModelOf, whole, Stands, Repeats, SomeRepeated, RepeatsFirst, SomeAmbiguous, NamesFirst, NamesDecide, ReaderRefusal, ReaderAcceptance, Quoted, NoneRequired, SameVerdict}
 use Rattle.answer_laws.specs.Reader.{given_one, reading_one}
 use Rattle.demands.specs.Exists.{judged_some, read_some}
+use Rattle.demands.specs.Ampersands as ampersands
 use Rattle.demands.specs.Kept as kept
 use Rattle.demands.specs.Values as values
 use Rattle.demands.specs.Batches as batches
@@ -90,7 +91,7 @@ pub record JudgeKeeps (l : Lent) (c : Settings) (s before : List ℕ) (a : Answe
   pub not_offered_exactly : (a.number ≡ 24) ↔ (is_offered c ≡ false)
   -- Paper 02, request twelve: "number 25 at the first such "&"", looked for after 3 to 8 and before 9.
   pub repeated_exactly : (a.number ≡ 25) ↔ (Legible c s × (es : List Element) × (type_file c.name_length s ≡ got es) × SomeRepeated es)
-  pub repeated_named : a.number ≡ 25 → (es : List Element) × (type_file c.name_length s ≡ got es) × (a.position ≡ first_repeated es) × (byte_at s a.position ≡ AND)
+  pub repeated_named : a.number ≡ 25 → RepeatsFirst c s a
   -- Demand 3, of a type file "where nothing is wrong that the stated order puts before ambiguity": it is legible, was read and is not under 25. It is refused
   -- as ambiguous "exactly when some content model in it has two different sequences of places, of whatever length, each the beginning of some
   -- walk, that spell the same names. The refusal names the first such model, and in it the first pair"; "where there is no such refusal, the
@@ -115,7 +116,7 @@ pub record ReaderKeeps (l : Lent) (c : Settings) (s d before : List ℕ) (a : An
   pub not_offered_exactly : (a.number ≡ 24) ↔ (is_offered c ≡ false)
   -- Paper 02, request twelve, as for the judge.
   pub repeated_exactly : (a.number ≡ 25) ↔ (BothLegible c s d × (es : List Element) × (type_file c.name_length s ≡ got es) × SomeRepeated es)
-  pub repeated_named : a.number ≡ 25 → (es : List Element) × (type_file c.name_length s ≡ got es) × (a.position ≡ first_repeated es) × (byte_at s a.position ≡ AND)
+  pub repeated_named : a.number ≡ 25 → RepeatsFirst c s a
   -- Demand 3, "whatever document and lent buffer come with it".
   pub ambiguous_exactly : (a.number ≡ 9) ↔ (BothLegible c s d × (es : List Element) × (type_file c.name_length s ≡ got es) × (SomeRepeated es → ⊥) × SomeAmbiguous s es)
   pub ambiguous_named : a.number ≡ 9 → NamesFirst c s a
@@ -403,6 +404,13 @@ pub required_never_inferred : (c : Settings) (s d : List ℕ) (es : List Element
     → (1 ≤ e.number) × (e.number ≤ length es) × NoneRequired (element_at es (e.number - 1))
 required_never_inferred = values.none_required
 
+-- "Never": so it is of each event that is noted up to any position that reading comes to, by whatever
+-- decisions, be the document refused later or not.
+pub required_never_inferred_before : (c : Settings) (s d : List ℕ) (es : List Element) (D : Decisions) (at : ℕ)
+    (l : Line) (z : State) → Passes c s es D d at l z → (e : Event) → Memᴰ e z.events → e.kind ≡ 2
+    → (1 ≤ e.number) × (e.number ≤ length es) × NoneRequired (element_at es (e.number - 1))
+required_never_inferred_before = values.none_required_before
+
 -- "Written values are literals in either quote": of each event e of a document that is read, if it is of kind
 -- 7 its value is a part of the document, and if it is of kind 8 a part of the type file, which stands between
 -- two quotes of one kind and has none of these in it (`Quoted`). So it lies in its text, and its bytes
@@ -430,6 +438,13 @@ defaulted_value c s d es ev x before e after parts k =
 pub value_given : (κs : Lfts 1) (a : ArgsD value_call.signature κs) (r : Bor (List ℕ)) (e : AtExit value_call.ended κs) → value_reads.Learnt κs a r e
     → r.now ≡ value_bytes a.0.now a.1.0.now a.1.1.0 (record { at = a.1.1.1.0; size = a.1.1.1.1.0 })
 value_given κs a r e given = given
+
+-- Paper 02, request twelve: of each model that was read, as it is written, an "&" group stands in what
+-- carries "+" or "*", or carries one (it is not `Guarded`), exactly if some "&" of it is such (`Repeats`).
+pub repeated_written : (c : Settings) (s : List ℕ) (es : List Element) → type_file c.name_length s ≡ got es
+    → (g : Group) (ps : List Place) → ModelOf es g ps
+    → (i : ℕ) × (j : ℕ) × (w : Stands s whole [] i g ps j) × ((Guarded g → ⊥) ↔ ((p : ℕ) × Repeats w p))
+repeated_written c s = ampersands.written_so c.name_length s
 
 -- Demand 3 by pairs at fault: a model is ambiguous exactly if it has one; of a model that was read, both its places are places of the model.
 pub pair_exactly : (s : List ℕ) (g : Group) (ps : List Place) → Ambiguous (same_place s ps) g ↔ ((p : ℕ) × (q : ℕ) × PairAtFault (same_place s ps) g p q)

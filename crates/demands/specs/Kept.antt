@@ -2,13 +2,12 @@
 use Rattle.std.specs.Prelude.{ℕ, ◌*◌, ◌<◌, ◌≤◌, ◌≡◌, refl, false, ◌||◌, ◌↔◌, List, ◌++◌, length, eqb}
 use Rattle.std.proofs.Common.{sym, ◌∙◌, ap, ⊎_elim, arith}
 use Rattle.rules.specs.Settings.{Settings, is_offered}
-use Rattle.rules.specs.Bytes.{byte_at, AND}
 use Rattle.rules.specs.Lent.{Lent, room}
 use Rattle.rules.specs.Reading.{got}
 use Rattle.rules.specs.Walk.{Group}
 use Rattle.rules.specs.Ambiguity.{Ambiguous, PairAtFault}
 use Rattle.rules.specs.TypeFile.{Place, Element, type_file}
-use Rattle.rules.specs.Judge.{same_place, Answer, refusal, first_repeated, Legible, Refuses, no_room, Accepts, Judged, refuses, accepts, record_width}
+use Rattle.rules.specs.Judge.{same_place, Answer, refusal, Legible, Refuses, no_room, Accepts, Judged, refuses, accepts, record_width}
 use Rattle.rules.specs.Events.{Event, event_width}
 use Rattle.rules.specs.Given.{attributes_before, with_attributes}
 use Rattle.rules.specs.Decisions.{Decisions, Means}
@@ -16,11 +15,11 @@ use Rattle.rules.specs.Settling.{State}
 use Rattle.rules.specs.Acts.{Deeds, IsStart, Took}
 use Rattle.rules.specs.Records.{is_end, records_settled}
 use Rattle.rules.specs.Reader.{BothLegible, Reads, RefusesBoth, ReadAs}
-use Rattle.demands.specs.Words.{Refusal, Acceptance, ModelOf, SomeRepeated, SomeAmbiguous, NamesFirst, NamesDecide, ReaderRefusal, ReaderAcceptance, SameVerdict}
+use Rattle.demands.specs.Words.{Refusal, Acceptance, ModelOf, SomeRepeated, RepeatsFirst, SomeAmbiguous, NamesFirst, NamesDecide, ReaderRefusal, ReaderAcceptance, SameVerdict}
 use Rattle.answer_laws.specs.Judge.{settled_one, settled_refuses, settled_accepts, settled_fair, settled_faulty, refuses_named, refuses_some, settled_twenty_four, settled_twenty_five, settled_repeated, settled_nine, settled_nineteen, first_model, model_exactly, not_ambiguous, names_alone, settled_length}
+use Rattle.demands.specs.Ampersands.{repeats_first}
 use Rattle.demands.specs.Models.{pair_in, names_first, some_repeated, repeated_some, unrepeated_none, none_repeated}
 use Rattle.document_laws.specs.OneReading.{same_elements}
-use Rattle.type_laws.specs.Members.{type_file_ampersand}
 use Rattle.record_due.specs.Due.{to_other}
 use Rattle.record_due.specs.Among.{Among, cut_run, stands, among}
 use Rattle.place_laws.specs.Taken.{deeds_took}
@@ -82,8 +81,8 @@ module _ (l : Lent) (c : Settings) (s before : List ℕ) (a : Answer) (after : L
     λ (i, es, r, x). settled_repeated promised i es r (repeated_some c.name_length s es r x),
   )
 
-  pub repeated_named : a.number ≡ 25 → (es : List Element) × (type_file c.name_length s ≡ got es) × (a.position ≡ first_repeated es) × (byte_at s a.position ≡ AND)
-  repeated_named h = let (i, es, r, l, k) = settled_twenty_five promised h in (es, r, k, rw k (type_file_ampersand c.name_length s es r l))
+  pub repeated_named : a.number ≡ 25 → RepeatsFirst c s a
+  repeated_named h = let (i, es, r, l, k) = settled_twenty_five promised h in repeats_first c s a es r l k
 
   -- Demand 3: a type is refused as ambiguous exactly when some content model is.
 
@@ -175,8 +174,8 @@ module _ (l : Lent) (c : Settings) (s d before : List ℕ) (a : Answer) (after :
     λ (i, es, r, x). given_repeated called i r (repeated_some c.name_length s es r x),
   )
 
-  pub reader_repeated_named : a.number ≡ 25 → (es : List Element) × (type_file c.name_length s ≡ got es) × (a.position ≡ first_repeated es) × (byte_at s a.position ≡ AND)
-  reader_repeated_named h = let (i, es, r, l, k) = given_twenty_five called h in (es, r, k, rw k (type_file_ampersand c.name_length s es r l))
+  pub reader_repeated_named : a.number ≡ 25 → RepeatsFirst c s a
+  reader_repeated_named h = let (i, es, r, l, k) = given_twenty_five called h in repeats_first c s a es r l k
 
   -- Demand 3, whatever document and buffer come with the type: it is refused as ambiguous exactly when some content model is.
 

@@ -10,6 +10,8 @@ pub mod RecordEnds
 pub mod Meets
 pub mod Kept
 pub mod Models
+pub mod Order
+pub mod Ampersands
 pub mod Editions
 pub mod Values
 pub mod Exists

@@ -15,8 +15,8 @@ use Rattle.rules.specs.Events.{Event}
 use Rattle.rules.specs.Given.{given_for, attribute_event, attribute_events, given_by, attributes_before, with_attributes, value_bytes}
 use Rattle.rules.specs.Decisions.{Decisions}
 use Rattle.rules.specs.Settling.{Open, State, inferable}
-use Rattle.rules.specs.Acts.{Deed, opened, passed, inferred, fitted, inferred_end, closed, Deeds, nothing, then}
-use Rattle.rules.specs.Records.{records_settled}
+use Rattle.rules.specs.Acts.{Passes, Deed, opened, passed, inferred, fitted, inferred_end, closed, Deeds, nothing, then}
+use Rattle.rules.specs.Records.{Line, records_settled}
 use Rattle.rules.specs.Reader.{Reads}
 use Rattle.basic_laws.specs.Truth.{bool_cases, or_cases, or_left, or_right, and_right}
 use Rattle.rules_laws.specs.Holds.{Gives, stops, reads, got_so, each, on, either, whichever}
@@ -26,7 +26,7 @@ use Rattle.rules_laws.specs.Declarations.{ListedIn}
 use Rattle.rules_laws.specs.Within.{All, none, more, all_mem, type_file_lists}
 use Rattle.rules_laws.specs.In.{all_snoc}
 use Rattle.document_laws.specs.Chain.{inferable_may}
-use Rattle.acts.specs.Readings.{document_acts}
+use Rattle.acts.specs.Readings.{passes_acts, document_acts}
 use Rattle.acts.specs.Deeds.{acts_deeds}
 use Rattle.record_due.specs.Among.{Among, cut_run, stands, among}
 use Rattle.place_laws.specs.Taken.{data_keeps}
@@ -299,6 +299,11 @@ none_of (x ∷ xs) h a (Memᴰ.tail m) q =
     none_of xs (bool_cases (needs_tag xs)
     (λ r. absurd (false≢true (sym h ∙ or_right (is_required x.default) r))) (λ r. r)) a m q
 
+inferred_free : (s : List ℕ) (es : List Element) (D : Decisions) {e : Event} → Noted s es D e → e.kind ≡ 2
+    → (1 ≤ e.number) × (e.number ≤ length es) × NoneRequired (element_at es (e.number - 1))
+inferred_free s es D {e} n k =
+    ((n.declared k).0, (n.declared k).1, none_of (element_at es (e.number - 1)).attributes (n.free k))
+
 -- Each event of a document that is read
 
 member : (before : List Event) (e : Event) (after : List Event) → Memᴰ e (before ++ e ∷ after)
@@ -346,13 +351,16 @@ module _ (c : Settings) (s d : List ℕ) (es : List Element) (ev : List Event) (
       → (1 ≤ e.number) × (e.number ≤ length es) × NoneRequired (element_at es (e.number - 1))
   none_required k =
       ⊎_elim (λ v. absurd (⊎_elim (λ w. omega (arith, k, w.0)) (λ w. omega (arith, k, w.0)) v))
-      (λ n. (
-        (n.declared k).0,
-        (n.declared k).1,
-        none_of (element_at es (e.number - 1)).attributes
-            (n.free k),
-      ))
-      of_either
+      (λ n. inferred_free s es x.decisions n k) of_either
+
+-- So it is of each event that is noted up to where reading comes to, be the document refused later or not.
+pub none_required_before : (c : Settings) (s d : List ℕ) (es : List Element) (D : Decisions) (at : ℕ)
+    (l : Line)
+    (z : State) → Passes c s es D d at l z → (e : Event) → Memᴰ e z.events → e.kind ≡ 2
+    → (1 ≤ e.number) × (e.number ≤ length es) × NoneRequired (element_at es (e.number - 1))
+none_required_before c s d es D at l z p e m =
+    inferred_free s es D
+    (all_mem (deeds_noted s es D (acts_deeds s es D Deeds.nothing (passes_acts s es D d p))) m)
 
 -- The bytes of a value that stands so are those of its part.
 pub quoted_bytes : (s d : List ℕ) (is_written : Bool) (at size : ℕ)

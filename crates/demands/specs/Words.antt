@@ -1,14 +1,14 @@
 -- The words of the demands: what a refusal and an acceptance are, and demand 3's words about models.
-use Rattle.std.specs.Prelude.{ℕ, ◌+◌, ◌-◌, ◌*◌, ◌<◌, ◌≤◌, ◌≡◌, ◌⊎◌, ◌↔◌, length}
-use mathlib.Core.List.{List, ◌∷◌, ◌++◌, Memᴰ}
+use Rattle.std.specs.Prelude.{ℕ, ◌+◌, ◌-◌, ◌*◌, ◌<◌, ◌≤◌, ◌≡◌, true, ◌⊎◌, ◌↔◌, length}
+use mathlib.Core.List.{List, [], ◌∷◌, ◌++◌, Memᴰ}
 use Rattle.rules.specs.Settings.{Settings}
-use Rattle.rules.specs.Bytes.{byte_at, RE, LIT, LITA}
+use Rattle.rules.specs.Bytes.{byte_at, letter, name_end, separators_end, RE, LIT, RNI, AND, LITA, GRPO, GRPC, REP, PLUS, OPT}
 use Rattle.rules.specs.Lent.{Lent, standing, room, filled_with, zeroed}
 use Rattle.rules.specs.Reading.{got}
-use Rattle.rules.specs.Walk.{Group, Guarded, Begins}
+use Rattle.rules.specs.Walk.{Group, opt, plus, star, Guarded, Begins}
 use Rattle.rules.specs.Ambiguity.{SpellSame, Ambiguous, FirstPair}
 use Rattle.rules.specs.Attributes.{required, Attribute}
-use Rattle.rules.specs.TypeFile.{Place, model, Element, type_file}
+use Rattle.rules.specs.TypeFile.{is_word, PCDATA, Place, new_place, is_connector, join, model, Element, type_file}
 use Rattle.rules.specs.Judge.{place_at, same_place, Answer, acceptance, records, Accepts, record_width}
 use Rattle.rules.specs.Events.{Event, event_width}
 use Rattle.rules.specs.Reader.{event_numbers, Reads}
@@ -44,6 +44,102 @@ ModelOf es g ps = (e : Element) × (n : ℕ) × Memᴰ e es × (e.content ≡ mo
 -- Paper 02, request twelve: in some content model an "&" group stands "at any depth, in a token or group that carries "+" or "*"", or carries one.
 abbrev pub SomeRepeated : List Element → Type 0
 SomeRepeated es = (g : Group) × (ps : List Place) × ModelOf es g ps × (Guarded g → ⊥)
+
+-- What may stand in a content model: a name or a group, without its indicator; a content token, with it; or
+-- the first content tokens of a group, so many of them, joined by this connector (0 where there is only one).
+pub data Form : Type 0 where
+  bare : Form
+  whole : Form
+  several : (count connector : ℕ) → Form
+
+-- How a content model is written in the type file s: from i up to j stands what is read as g, in this form,
+-- behind the places ps, and qs are those with its own; `join` of the rules is the group of tokens joined by a
+-- connector. "A group holds content tokens joined by one kind of connector"; a token is "a name, a name with an
+-- indicator, `#PCDATA`, or a group with or without an indicator"; "the indicator ("?", "+", "*") follows at
+-- once"; "`#PCDATA` counts as "*"".
+pub data Stands (s : List ℕ) : Form → (ps : List Place) (i : ℕ) → Group → (qs : List Place) (j : ℕ)
+    → Type 0 where
+  name : {ps : List Place} {i : ℕ} → letter (byte_at s i) ≡ true
+      → Stands s bare ps i (new_place ps) (ps ++ record { at = i; size = name_end s i - i } ∷ [])
+      (name_end s i)
+  group : {ps qs : List Place} {i j k b : ℕ} {g : Group} → byte_at s i ≡ GRPO
+      → Stands s (several k b) ps (i + 1) g qs j → byte_at s (separators_end s j) ≡ GRPC
+      → Stands s bare ps i g qs (separators_end s j + 1)
+  pcdata : {ps : List Place} {i : ℕ} → byte_at s i ≡ RNI
+      → is_word s (i + 1) (name_end s (i + 1)) PCDATA ≡ true
+      → Stands s whole ps i (star (new_place ps)) (ps ++ record { at = i; size = 0 } ∷ [])
+      (name_end s (i + 1))
+  alone : {ps qs : List Place} {i j : ℕ} {g : Group} → Stands s bare ps i g qs j → Stands s whole ps i g qs j
+  optional : {ps qs : List Place} {i j : ℕ} {g : Group} → Stands s bare ps i g qs j → byte_at s j ≡ OPT
+      → Stands s whole ps i (opt g) qs (j + 1)
+  repeated : {ps qs : List Place} {i j : ℕ} {g : Group} → Stands s bare ps i g qs j → byte_at s j ≡ PLUS
+      → Stands s whole ps i (plus g) qs (j + 1)
+  any : {ps qs : List Place} {i j : ℕ} {g : Group} → Stands s bare ps i g qs j → byte_at s j ≡ REP
+      → Stands s whole ps i (star g) qs (j + 1)
+  first : {ps qs : List Place} {i j : ℕ} {g : Group} → Stands s whole ps (separators_end s i) g qs j
+      → Stands s (several 1 0) ps i g qs j
+  more : {ps qs rs : List Place} {i j k c l : ℕ} {g h : Group} (b : ℕ) → Stands s (several k c) ps i g qs j
+      → (c ≡ 0) ⊎ (c ≡ b) → byte_at s (separators_end s j) ≡ b → is_connector b ≡ true
+      → Stands s whole qs (separators_end s (separators_end s j + 1)) h rs l
+      → Stands s (several (k + 1) b) ps i (join k b g h) rs l
+
+-- The byte at p is an "&" that joins content tokens there, at any depth.
+abbrev pub Joins : {s : List ℕ} {f : Form} {ps qs : List Place} {i j : ℕ} {g : Group} → Stands s f ps i g qs j
+    → ℕ → Type 0
+Joins (name h) p = ⊥
+Joins (group o t c) p = Joins t p
+Joins (pcdata h w) p = ⊥
+Joins (alone t) p = Joins t p
+Joins (optional t h) p = Joins t p
+Joins (repeated t h) p = Joins t p
+Joins (any t h) p = Joins t p
+Joins (first t) p = Joins t p
+Joins {s} (more {j = j} b t o e c u) p = Joins t p ⊎ (((b ≡ AND) × (p ≡ separators_end s j)) ⊎ Joins u p)
+
+-- Paper 02, request twelve: "An "&" group may not stand, at any depth, in a token or group that carries "+"
+-- or "*", nor carry one". The byte at p is an "&" by which one does: it joins content tokens, at any depth,
+-- of what carries "+" or "*".
+abbrev pub Repeats : {s : List ℕ} {f : Form} {ps qs : List Place} {i j : ℕ} {g : Group}
+    → Stands s f ps i g qs j → ℕ → Type 0
+Repeats (name h) p = ⊥
+Repeats (group o t c) p = Repeats t p
+Repeats (pcdata h w) p = ⊥
+Repeats (alone t) p = Repeats t p
+Repeats (optional t h) p = Repeats t p
+Repeats (repeated t h) p = Joins t p
+Repeats (any t h) p = Joins t p
+Repeats (first t) p = Repeats t p
+Repeats (more b t o e c u) p = Repeats t p ⊎ Repeats u p
+
+-- Each model of es is written so that no such "&" stands in it.
+abbrev pub NoneRepeats : List ℕ → List Element → Type 0
+NoneRepeats s es = (g : Group) (ps : List Place) → ModelOf es g ps
+    → (i : ℕ) × (j : ℕ) × (w : Stands s whole [] i g ps j) × ((p : ℕ) → Repeats w p → ⊥)
+
+-- "That is number 25 at the first such "&"". It stands in the model of one element, as that model is written,
+-- and none stands before it there; the models of the elements declared before have none; the elements
+-- declared after stand behind it. The places have their positions in the type file, so that `written` is of
+-- this element's model and of no other. Where such an "&" stands the group is not `Guarded`, as
+-- `SomeRepeated` has it.
+pub record RepeatsFirst (c : Settings) (s : List ℕ) (a : Answer) : Type 0 where
+  pub earlier : List Element
+  pub element : Element
+  pub later : List Element
+  pub read : type_file c.name_length s ≡ got (earlier ++ element ∷ later)
+  pub unrepeated : SomeRepeated earlier → ⊥
+  pub none_before : NoneRepeats s earlier
+  pub group : Group
+  pub places : List Place
+  pub tokens : ℕ
+  pub content : element.content ≡ model group places tokens
+  pub begins : ℕ
+  pub ends : ℕ
+  pub written : Stands s whole [] begins group places ends
+  pub such : Repeats written a.position
+  pub first : (p : ℕ) → Repeats written p → a.position ≤ p
+  pub unguarded : (p : ℕ) → Repeats written p → Guarded group → ⊥
+  pub behind : (e : Element) → Memᴰ e later → a.position < e.at
+  pub ampersand : byte_at s a.position ≡ AND
 
 -- "Some content model in it has two different sequences of places, of whatever length, each the beginning of some walk, that spell the same
 -- names."

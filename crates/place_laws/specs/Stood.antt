@@ -83,7 +83,7 @@ pub of_attribute : (long : ℕ) (s : List ℕ) (es : List Element) (d : List ℕ
 of_attribute long s es d x e m =
     let xs = (element_at es (x.number - 1)).attributes in
     all_mem (before_each OfAttribute s es d long x
-        (events_of 1 s xs d (given_by (start_tag_at long d (x.offset + 1)))) (events_of 1 s xs d [])) m
+    (events_of 1 s xs d (given_by (start_tag_at long d (x.offset + 1)))) (events_of 1 s xs d [])) m
 
 -- An event of the whole list is that of an attribute, or one of those before, which stands behind the attribute events before it and behind all before, with theirs.
 pub data Stood (long : ℕ) (s : List ℕ) (es : List Element) (d : List ℕ) (ev before : List Event) (e : Event) : Type 0 where

@@ -36,10 +36,10 @@ ends_none c d at l o (end_tag t) e = refl
 ends_none c d at l o (skipped after) e = refl
 ends_none c d at l o blank e =
     ap {B = Piece}
-        (λ b. elim (is_second c && (b && at_once d at l o)) as
-        (λ _. Piece) [ true ↦ skipped (at + 1) | false ↦ blank ]) e
+    (λ b. elim (is_second c && (b && at_once d at l o)) as
+    (λ _. Piece) [ true ↦ skipped (at + 1) | false ↦ blank ]) e
     ∙ ap {B = Piece} (λ b. elim b as (λ _. Piece) [ true ↦ skipped (at + 1) | false ↦ blank ])
-        (and-false (is_second c))
+    (and-false (is_second c))
 ends_none c d at l o data_byte e = refl
 
 settled_first : (c : Settings) (d : List ℕ) (ev : List Event) → is_second c ≡ false
@@ -53,12 +53,12 @@ module _ (d : List ℕ) (none : (i : ℕ) → eqb (byte_at d i) RE ≡ false) wh
   unfolding cut
   cut_none e =
       ap {B = List Event}
-          (λ b. elim (eqb e.kind 5 && b) as
-          (λ _. List Event) [ true ↦ due_run e.offset (e.size - 1) | false ↦ e ∷ [] ])
-          (none (e.offset + e.size - 1))
+      (λ b. elim (eqb e.kind 5 && b) as
+      (λ _. List Event) [ true ↦ due_run e.offset (e.size - 1) | false ↦ e ∷ [] ])
+      (none (e.offset + e.size - 1))
       ∙ ap {B = List Event}
-          (λ b. elim b as (λ _. List Event) [ true ↦ due_run e.offset (e.size - 1) | false ↦ e ∷ [] ])
-          (and-false (eqb e.kind 5))
+      (λ b. elim b as (λ _. List Event) [ true ↦ due_run e.offset (e.size - 1) | false ↦ e ∷ [] ])
+      (and-false (eqb e.kind 5))
 
   either_one : (b : Bool) (e : Event)
       → elim b as (λ _. List Event) [ true ↦ cut d e | false ↦ e ∷ [] ] ≡ e ∷ []
@@ -102,18 +102,18 @@ module _ (c : Settings) (s : List ℕ) (es : List Element) (D : Decisions) (d : 
       by_test ih true = refl
       by_test ih false =
           ap (λ (r : Reading Piece). and_then r λ p. and_then (settle_piece s es D d p at z) λ y.
-              pieces_within c s es D d turns y.at (line_after s es D d p at l z) y.state)
-              (piece_plain at l z.current)
+          pieces_within c s es D d turns y.at (line_after s es D d p at l z) y.state)
+          (piece_plain at l z.current)
           ∙ (on_so (plain_piece c.name_length s es d at) λ p. on_so (settle_piece s es D d p at z) λ y. ih y.at (line_after s es D d p at l z) y.state)
 
   document_plain : document c s es D d ≡ plain_document c.name_length s es D d
   unfolding document plain_document
   document_plain =
       ap (λ (r : Reading (List Event)). and_then r λ ev. got
-          (with_attributes c.name_length s es d (records_settled c d ev)))
-          (pieces_plain (suc (length d)) 0 new_line nothing_open)
+      (with_attributes c.name_length s es d (records_settled c d ev)))
+      (pieces_plain (suc (length d)) 0 new_line nothing_open)
       ∙ (on_so (plain_pieces c.name_length s es D d (suc (length d)) 0 nothing_open) λ ev. ap
-          (λ (x : List Event). got (with_attributes c.name_length s es d x)) (whole ev))
+      (λ (x : List Event). got (with_attributes c.name_length s es d x)) (whole ev))
 
 -- The document's events in edition 1 are those of the reading before request eight.
 pub first_edition_lem : (c : Settings) (s : List ℕ) (es : List Element) (D : Decisions) (d : List ℕ)
