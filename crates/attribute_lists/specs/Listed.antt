@@ -1,5 +1,5 @@
 -- Where the lists of a type stand, and what the answers of the code stand for.
-use Rattle.std.specs.Prelude.{ℕ, Option, Some, None, Result, Ok, Err, zero, suc, ◌+◌, ◌-◌, ◌*◌, ◌≤◌, ◌<◌, ◌≡◌, Bool, false, not, ◌||◌, ◌⊎◌, List, length, get_or, eqb}
+use Rattle.std.specs.Prelude.{ℕ, Result, Ok, Err, zero, suc, ◌+◌, ◌-◌, ◌*◌, ◌≤◌, ◌<◌, ◌≡◌, Bool, false, not, ◌||◌, ◌⊎◌, List, length, get_or, eqb}
 use Rattle.rules.specs.Reading.{Reading, got}
 use Rattle.rules.specs.Attributes.{Attribute, AttList}
 use Rattle.rules.specs.TypeFile.{list_from, is_listed, Listed, Declarations, attributes_of}
@@ -9,7 +9,6 @@ use Rattle.rules.specs.Bytes.{element_limit}
 use Rattle.text.specs.declared.Fault.{Fault}
 use Rattle.text.specs.Refusal.{refusal_of}
 use Rattle.layout.specs.Sizes.{LIST}
-use Rattle.layout.specs.declared.ElementNo.{ElementNo}
 use Rattle.list_table.specs.Lists.{ListAt}
 use Rattle.attribute_lists.specs.declared.Head.{Head}
 
@@ -38,11 +37,6 @@ is_head h = not (eqb h 0)
 unfoldable pub any_in : List ℕ → (n : ℕ) → Bool
 any_in heads zero = false
 any_in heads (suc n) = any_in heads n || not (eqb (get_or heads n 0) 0)
-
--- The number of an element that was looked for; 0 for none.
-abbrev pub number_of : Option ElementNo → ℕ
-number_of None = 0
-number_of (Some e) = e.0
 
 -- The element of a list.
 abbrev pub listed_of : Result Head Fault → Reading Listed

@@ -1,77 +1,20 @@
--- Which element a list is for: a search through the records.
-use Prim.Native.Nat.{ℕ, zero, suc, ◌+◌, ◌-◌, ◌*◌, ◌≤◌, ◌<◌}
-use Rattle.std.specs.Prelude.{◌≡◌, Option, Some, None, Bool, true, false, not, ◌||◌, get_or, eqb}
+-- Which element a list is for, and whether any element has one.
+use Prim.Native.Nat.{ℕ, zero, suc, ◌+◌, ◌-◌, ◌≤◌, ◌<◌}
+use Rattle.std.specs.Prelude.{◌≡◌, Bool, true, false, not, ◌||◌, get_or, eqb}
 use Rattle.std.proofs.Math.Path.{refl, sym}
 use Rattle.std.proofs.Common.{◌∙◌, ap, arith}
 use Rattle.std.specs.List.{list_any}
 use Rattle.std.proofs.Math.Bool.{or-false, or_assoc, or-true}
 use mathlib.Core.List.{List, [], ◌∷◌}
 use Rattle.std.proofs.Math.Decide.{ℕ_discrete}
-use Rattle.std.proofs.Math.ListN.{length, take, drop}
+use Rattle.std.proofs.Math.ListN.{length, take}
 use borrow.Author.Tests.{eq-eqb, ne_eqb, lt-ltb, le-ltb, le-leb, lt-leb}
-use Rattle.rules.specs.Bytes.{byte_at, letter, name_end, same_text, GRPO, element_limit}
+use Rattle.rules.specs.Bytes.{byte_at, letter, name_end, GRPO, element_limit}
 use Rattle.rules.specs.Reading.{refused, got}
 use Rattle.rules.specs.Attributes.{AttList}
-use Rattle.rules.specs.TypeFile.{same_name, unfit, declared_from, is_listed, listed_element}
+use Rattle.rules.specs.TypeFile.{unfit, declared_from, is_listed, listed_element}
 use Rattle.rules.specs.TypeFile as rules
-use Rattle.rules.specs.Judge.{record_width}
-use Rattle.layout.specs.declared.ElementNo.{ElementNo}
-use Rattle.element_names.specs.Names.{Recorded, name_at}
-use Rattle.element_names.specs.Records.{RecordAt, recorded_at}
-use Rattle.attribute_lists.specs.Listed.{Headed, is_head, any_in, number_of}
-
--- A name of the table and another, by what is read of it.
-module _ (s elements : List ℕ) (k at size m : ℕ) (sized : m ≡ get_or elements (record_width * k + 1) 0) where
-  pub other_size : (m ≡ size → ⊥) → false ≡ same_name s (name_at elements k).at (name_at elements k).size at size
-  other_size ne = rw (same_name, ← sized, ne_eqb m size ne)
-
-  pub same_size : m ≡ size → (a : ℕ) → a ≡ get_or elements (record_width * k) 0 → {r : Bool} → r ≡ same_text s a s at size → r ≡ same_name s (name_at elements k).at (name_at elements k).size at size
-  same_size e a h q = rw (same_name, ← sized, eq-eqb m size e, ← h) q
-
--- What is still to be looked through gives the answer.
-pub record Looks (s : List ℕ) (es : List rules.Element) (at size k : ℕ) : Type 0 where
-  answer : declared_from (k + 1) s (drop k es) at size ≡ declared_from 1 s es at size
-
-module _ (s elements : List ℕ) (at size : ℕ) (es : List rules.Element) where
-  pub looks_first : Looks s es at size 0
-  looks_first = record { answer = refl }
-
-  pub looks_none : (k : ℕ) → length es ≤ k → Looks s es at size k → 0 ≡ declared_from 1 s es at size
-  unfolding declared_from
-  looks_none k h w = sym (ap (λ l. declared_from (k + 1) s l at size) (past es k h)) ∙ w.answer
-    where
-      past : (l : List rules.Element) (j : ℕ) → length l ≤ j → drop j l ≡ []
-      past [] zero i = refl
-      past [] (suc j) i = refl
-      past (e ∷ l) zero i = absurd (omega (arith, i))
-      past (e ∷ l) (suc j) i = past l j (omega (arith, i))
-
-  module _ (r : Recorded elements es) (k : ℕ) (h : k < length es) (w : Looks s es at size k) {b : Bool} (same : b ≡ same_name s (name_at elements k).at (name_at elements k).size at size) where
-    one : RecordAt elements es k
-    one = recorded_at elements es k r h
-
-    here : same_name s one.element.at one.element.size at size ≡ b
-    here = sym (same ∙ ap (λ x. same_name s x (name_at elements k).size at size) one.at ∙ ap (λ x. same_name s one.element.at x at size) one.size)
-
-    step : declared_from (k + 1) s (one.element ∷ drop (k + 1) es) at size ≡ declared_from 1 s es at size
-    step = ap (λ l. declared_from (k + 1) s l at size) (sym one.stands) ∙ w.answer
-
-    pub looks_found : b ≡ true → k + 1 ≡ declared_from 1 s es at size
-    unfolding declared_from
-    looks_found e =
-        let q : declared_from (k + 1) s (one.element ∷ drop (k + 1) es) at size ≡ k + 1 = rw (here ∙ e, declared_from) in
-        sym q ∙ step
-
-    pub looks_turn : b ≡ false → Looks s es at size (k + 1)
-    unfolding declared_from
-    looks_turn e =
-        let q : declared_from (k + 1) s (one.element ∷ drop (k + 1) es) at size ≡ declared_from (k + 1 + 1) s (drop (k + 1) es) at size = rw (here ∙ e, declared_from) in
-        record { answer = sym q ∙ step }
-
--- An element that was looked for is found or not.
-pub number_none : (r : Option ElementNo) → ((e : ElementNo) → r ≡ Some e → ⊥) → number_of r ≡ 0
-number_none None h = refl
-number_none (Some e) h = absurd (h e refl)
+use Rattle.attribute_lists.specs.Listed.{Headed, is_head, any_in}
 
 -- The element of a list, by the tests that the code makes.
 

@@ -56,9 +56,9 @@ fn is_left_out(b: u8) -> bool
     b == b'[' || b == b'%'
 }
 
-// The token at i, the k-th of its group from 0, after n of the list, and where it ends. Where the first n
-// tokens of `seen` do not end with k of the group, the answer is unspecified, but that a token that is read
-// has a byte, ends in the input, and is at most the 32nd of its group.
+// The token at i, the k-th of its group from 0, after n of the list, and where it ends. Where k is more than
+// n, so that the group would have more tokens than the list, the answer is unspecified, but that a token that
+// is read has a byte, ends in the input, and is at most the 32nd of its group.
 fn token_at(
     long: usize,
     s: &[u8],
