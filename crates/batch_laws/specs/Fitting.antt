@@ -8,9 +8,11 @@ use Rattle.stretches.specs.Tests.{apart_by, apart_turn, all_turn, fits_whole, fi
 
 -- Two stretches share no number, or they share one.
 apart_or_not : (from size other its : ℕ) → (b : Bool) × Apart from size other its b
-apart_or_not from size other its = by_empty (ℕ_discrete size 0) (ℕ_discrete its 0) (dec_lt other (from + size))
+apart_or_not from size other its =
+    by_empty (ℕ_discrete size 0) (ℕ_discrete its 0) (dec_lt other (from + size))
   where
-    by_empty : Dec (size ≡ 0) → Dec (its ≡ 0) → Dec (other < from + size) → (b : Bool) × Apart from size other its b
+    by_empty : Dec (size ≡ 0) → Dec (its ≡ 0) → Dec (other < from + size)
+        → (b : Bool) × Apart from size other its b
     by_empty (yes e) i l = (true, λ k x y. omega (arith, x.0, x.1))
     by_empty (no e) (yes i) l = (true, λ k x y. omega (arith, y.0, y.1))
     by_empty (no e) (no i) (yes l) =
@@ -42,7 +44,8 @@ module _ (froms sizes : List ℕ) where
   from_or_not : (i n : ℕ) → (b : Bool) × ApartFrom froms sizes i n b
   from_or_not i zero = (true, λ j k h. absurd (omega arith))
   from_or_not i (suc n) =
-      go (from_or_not i n) (apart_or_not (get_or froms n 0) (get_or sizes n 0) (get_or froms i 0) (get_or sizes i 0))
+      go (from_or_not i n)
+      (apart_or_not (get_or froms n 0) (get_or sizes n 0) (get_or froms i 0) (get_or sizes i 0))
     where
       go : (b : Bool) × ApartFrom froms sizes i n b
           → (b : Bool) × Apart (get_or froms n 0) (get_or sizes n 0) (get_or froms i 0) (get_or sizes i 0) b
@@ -69,7 +72,8 @@ equal_or_not b answers =
     (ℕ_discrete (length b.sizes) (length b.starts)) (ℕ_discrete answers (answer_width * length b.starts))
   where
     go : Dec (length b.lengths ≡ length b.starts) → Dec (length b.froms ≡ length b.starts)
-        → Dec (length b.sizes ≡ length b.starts) → Dec (answers ≡ answer_width * length b.starts) → Dec (Equal b answers)
+        → Dec (length b.sizes ≡ length b.starts) → Dec (answers ≡ answer_width * length b.starts)
+        → Dec (Equal b answers)
     go (no e) f g h = no λ q. e q.lengths_equal
     go (yes e) (no f) g h = no λ q. f q.froms_equal
     go (yes e) (yes f) (no g) h = no λ q. g q.sizes_equal

@@ -103,7 +103,7 @@ module _ (l : Lent) (c : Settings) (s before : List ℕ) where
       → attribute_count es ≡ attribute_count fs
   count_once w v = ap attribute_count (accepted_once w v)
 
-  numbers_of : List Element → List ℕ
+  abbrev numbers_of : List Element → List ℕ
   numbers_of es = filled_with (standing l (list_numbers 1 es)) before
 
   pub listed_one : (a b : Answer) (after other : List ℕ) → Lists l c s before a after
