@@ -18,8 +18,8 @@ held() {
     fi
 }
 
-# said STATUS FILE SCRIPT: what progress says of a script, in place of rt, in a log, its seconds left out, and how
-# it ends.
+# said STATUS FILE SCRIPT: what progress says of a script, in place of rt, in a log, its seconds left out, and
+# how it ends.
 said() {
     local status=0
     .ci/progress text sh "$PWD/$3" >"$out/stdout" 2>"$out/stderr" || status=$?
@@ -80,7 +80,8 @@ echo "rt: there is no such command" >"$out/wrong.said"
 echo 'echo "rt: there is no such command" >&2; exit 2' >"$out/wrong"
 held "a command that does not run" said 2 "$out/wrong.said" "$out/wrong"
 held "a machine without rt" test "$(PATH=/usr/bin:/bin .ci/progress text no-such-rt lib 2>&1)" = \
-    "no-such-rt is not on the PATH; README.md says under Building where it comes from, and what can be done without it"
+    "no-such-rt is not on the PATH; README.md says under Building where it comes from, and what can be done \
+without it"
 if needs script bsdutils "what is said on a terminal"; then
     script -qec ".ci/progress text sh $PWD/$out/proves" /dev/null </dev/null | tr '\r' '\n' >"$out/lines"
     sed 's/^.\[K//; /^$/d' "$out/lines" >"$out/terminal"
