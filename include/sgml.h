@@ -57,7 +57,7 @@
  *         // SGML_ERR_NO_ROOM: nothing is wrong with the document, but this buffer does not hold its events
  *
  * Stack.  sgml_read and sgml_read_batch use at most SGML_STACK_BYTES (268 KB) of stack, sgml_judge and
- *     sgml_attributes at most SGML_JUDGE_STACK_BYTES (52 KB), whatever the inputs are. Both bounds are
+ *     sgml_attributes at most SGML_JUDGE_STACK_BYTES (56 KB), whatever the inputs are. Both bounds are
  *     measured, not proved. The main thread of a Linux program and threads created by glibc have 8 MB by
  *     default; elsewhere ask for it, with some room for the thread's own functions:
  *
@@ -179,7 +179,7 @@ enum {
     SGML_TAGLVL = 24,            /* open elements */
     SGML_BATCH_LIMIT = 200,      /* documents in one call */
     SGML_STACK_BYTES = 268 * 1024,      /* stack that any call uses at most; measured, not proved */
-    SGML_JUDGE_STACK_BYTES = 52 * 1024  /* stack that sgml_judge and sgml_attributes use at most; likewise */
+    SGML_JUDGE_STACK_BYTES = 56 * 1024  /* stack that sgml_judge and sgml_attributes use at most; likewise */
 };
 
 /* Sizes: in 32-bit numbers, and as bytes of a lent buffer, four to a number. */
