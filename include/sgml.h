@@ -459,9 +459,9 @@ SGML_LOOK_AT_ANSWER uint32_t sgml_read(const uint8_t *type, size_t type_len, con
  * reported in every answer, except where the document's own refusal comes first in the order of refusals. A
  * document that extends beyond the string's end is refused as too long (SGML_ERR_TOO_LONG); sums of offsets
  * and lengths may exceed what a size_t holds. Bytes of the buffer outside the stretches are unchanged.
- * Refused (SGML_ERR_BATCH): there are more than SGML_BATCH_LIMIT documents, the lists differ in length, a
- * stretch extends beyond the buffer's end, or a byte is in two stretches. Every byte of the buffer is zero,
- * and answers is unchanged.
+ * Refused (SGML_ERR_BATCH): there are more than SGML_BATCH_LIMIT documents, the lists differ in length,
+ * answers_len is not SGML_ANSWER_SIZE times the number of documents, a stretch extends beyond the buffer's
+ * end, or a byte is in two stretches. Every byte of the buffer is zero, and answers is unchanged.
  * Refused (SGML_ERR_SETTINGS): name_length or edition is not supported, whatever the lists are. Every byte of
  * the buffer is zero, and answers is unchanged, exactly as for SGML_ERR_BATCH.
  *

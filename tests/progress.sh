@@ -40,7 +40,7 @@ crate() { # NAME: what rt prints of a crate that is proved
     echo "crate $1: modules loaded=174 checked=2"
     echo "logic=proved functions=1 sum=0"
 }
-echo "rt: rules: begins with what a check kept in /tmp/rules"
+echo "rt: rules: begins with what a check kept in FOLDER"
 crate rules
 printf 'a line that comes '
 sleep 1.2

@@ -115,8 +115,8 @@ fn is_joined(x: usize, from: usize, i: usize) -> bool
 }
 
 // The default at i of an attribute with the declared value x, which ended at `from`. Where x stands for no
-// declared value of the type file the answer is not decided, but that a default which is read ends behind i in
-// the text, and the value of a literal lies in it.
+// declared value of the type file the answer is not decided, but that a default which is read ends behind i
+// in the text, and the value of a literal lies in it.
 // Kept: x is any number, and no `DeclaredValue` (fixed: docs/PROMISES.md names `default_at`).
 pub fn default_at(long: usize, s: &[u8], x: usize, from: usize, i: usize) -> Reading<Defaulted>
     requires { (1 ≤ i) × (i ≤ length s.now) × (length s.now ≤ type_limit) }

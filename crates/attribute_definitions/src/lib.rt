@@ -134,11 +134,11 @@ fn value_at(
     Err(gaps::unfit_at(s, i))
 }
 
-// The definition whose name, a letter, stands at i, after n attributes of the list, which have m tokens. The parameter before ended at `from`.
-// Where it is refused, what `seen` holds is not decided, nor anywhere what it holds behind the tokens of the list.
-// Where `list` has not n attributes, or `seen` not their tokens, neither the answer nor what `seen` holds is
-// decided, but that a definition which is read ends in the text, has numbers of 16 bits, is at most the 40th,
-// and brings at most 32 tokens.
+// The definition whose name, a letter, stands at i, after n attributes of the list, which have m tokens. The
+// parameter before ended at `from`. Where it is refused, what `seen` holds is not decided, nor anywhere what
+// it holds behind the tokens of the list. Where `list` has not n attributes, or `seen` not their tokens,
+// neither the answer nor what `seen` holds is decided, but that a definition which is read ends in the text,
+// has numbers of 16 bits, is at most the 40th, and brings at most 32 tokens.
 pub fn definition_at(
     long: usize,
     s: &[u8],

@@ -129,8 +129,8 @@ fn read_again(long: usize, s: &[u8], from: usize, k: usize, lists: &mut [u16])
 }
 
 // Fills the table, which is all 0, with the lists of a type of n elements, each read again from its head on.
-// Where `heads` has not the heads of lists, what the table holds is unspecified, and it is in any case behind
-// the rows of a list and behind the list of the n-th element.
+// What the table holds behind the rows of a list, and behind the list of the n-th element, is unspecified;
+// where `heads` has not the heads of lists, all of it is.
 pub fn fill(long: usize, s: &[u8], heads: &[u16; ELEMENTS], n: usize, lists: &mut [u16])
     requires { (n ≤ element_limit) × (length s.now ≤ type_limit) × (lists.old ≡ replicate LISTS 0) }
     ensures { (ls : List AttList) → Headed long s.now heads.now ls → (k : ℕ) → k < n → ListAt long s.now lists.new (LIST * k) (attributes_of ls (k + 1)) }

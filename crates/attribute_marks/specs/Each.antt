@@ -30,7 +30,8 @@ pub data Given (long : ℕ) (s : List ℕ) (xs : List Attribute) (d : List ℕ) 
   unfitting : (at : ℕ) → all_listed s xs d [] ws ≡ got tt → all_fit long s xs d ws ≡ refused 22 at → Given long s xs d ws marks (Err (fault_at refusal.Value at))
   fitting : all_listed s xs d [] ws ≡ got tt → all_fit long s xs d ws ≡ got tt → Marked s xs d ws marks → Given long s xs d ws marks (Ok tt)
 
--- Whatever the table of lists holds: what is refused of the attributes of a tag is 20 or 22, within so many bytes.
+-- Whatever the table of lists holds: what is refused of the attributes of a tag is 20 or 22, within so many
+-- bytes.
 abbrev pub GivenFits : (end : ℕ) → Result (Unit {0}) Fault → Type 0
 GivenFits end (Ok _) = Unit {0}
 GivenFits end (Err f) = (f.at ≤ end) × ((f.number ≡ 20) ⊎ (f.number ≡ 22))

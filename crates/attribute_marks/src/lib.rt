@@ -69,7 +69,8 @@ fn mark(
 
 // The n attributes that a tag gives: the first 20, else the first 22, else they are marked. A 20 comes before
 // each 22, so that the first misfit is only remembered: where its literal begins. Where the table has no list
-// of the element, or one in which two names are the same, it is not decided which of these it is.
+// of the element, or one in which two names are the same, neither which of these it is nor what `marks` holds
+// is decided, but that a refusal is 20 or 22, at most at the document's end.
 fn marked(
     long: usize,
     s: &[u8],
@@ -81,7 +82,8 @@ fn marked(
     marks: &mut [u16; MARKS],
 ) -> Reading<()>
     requires { (1 ≤ e.0) × (e.0 ≤ element_limit) × (n ≤ ATTCNT + 1) × GivenIn (length d.now) given.now n × (length s.now ≤ type_limit) × (length d.now ≤ document_limit) }
-    ensures by_list { (xs : List Attribute) → ListAt long s.now lists.now (LIST * (e.0 - 1)) xs → NamesDiffer s.now xs → ((k : ℕ) → k < length xs → get_or marks.old (2 * k) 0 ≡ 0) →
+    ensures by_list { (xs : List Attribute) → ListAt long s.now lists.now (LIST * (e.0 - 1)) xs →
+        NamesDiffer s.now xs → ((k : ℕ) → k < length xs → get_or marks.old (2 * k) 0 ≡ 0) →
         Given long s.now xs d.now (kept_of given.now n) marks.new result }
     ensures fits { GivenFits (length d.now) result }
 {
@@ -117,8 +119,8 @@ fn is_missing(lists: &[u16], e: ElementNo, n: usize, marks: &[u16; MARKS]) -> bo
 
 // The start tag at `at`, which was read, of the element e, which gives g attributes, of which so many are
 // kept: 20, 22 or 21, else they are marked. Where it is refused, what `marks` holds is not decided. Where the
-// table has no list of the element, or one in which two names are the same, neither the answer nor what `marks`
-// holds is decided, but that a refusal is 21 at the tag, or 20 or 22 within the document.
+// table has no list of the element, or one in which two names are the same, neither the answer nor what
+// `marks` holds is decided, but that a refusal is 21 at the tag, or 20 or 22, at most at the document's end.
 pub fn check(
     long: usize,
     s: &[u8],
@@ -131,7 +133,8 @@ pub fn check(
     marks: &mut [u16; MARKS],
 ) -> Reading<()>
     requires { (1 ≤ e.0) × (e.0 ≤ element_limit) × (g ≤ ATTCNT + 1) × GivenIn (length d.now) given.now g × (length s.now ≤ type_limit) × (length d.now ≤ document_limit) }
-    ensures by_list { (xs : List Attribute) (ws : List rules.Written) → ListAt long s.now lists.now (LIST * (e.0 - 1)) xs → NamesDiffer s.now xs → KeptAs given.now g ws →
+    ensures by_list { (xs : List Attribute) (ws : List rules.Written) →
+        ListAt long s.now lists.now (LIST * (e.0 - 1)) xs → NamesDiffer s.now xs → KeptAs given.now g ws →
         Attributed s.now xs d.now ws marks.new result (attributed long s.now xs d.now at ws) }
     ensures fits { CheckFits (length d.now) at result }
 {

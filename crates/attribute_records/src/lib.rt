@@ -86,7 +86,8 @@ fn put_record(numbers: &mut [u32], bytes: &mut [u8], n: usize, e: ElementNo, a: 
 // The records of the attributes of the element e, behind n records; how many there are then.
 fn put_list(lists: &[u16], e: ElementNo, n: usize, numbers: &mut [u32], bytes: &mut [u8]) -> usize
     requires { (1 ≤ e.0) × (e.0 ≤ element_limit) × (n ≤ ATTCNT * (element_limit - 1)) }
-    ensures { PutsList lists.now e.0 numbers.old bytes.old n numbers.new bytes.new result × (result ≤ n + ATTCNT) }
+    ensures { PutsList lists.now e.0 numbers.old bytes.old n numbers.new bytes.new result ×
+        (result ≤ n + ATTCNT) }
 {
     let count = list_table::count(lists, e);
     for a in 0..count {

@@ -146,8 +146,8 @@ fn refused(why: Refusal, bytes: &mut [u8]) -> Answer
 
 // Reads the documents of a batch under a type file and the settings c: the parts of the string that start at
 // `starts` and have these lengths, each into its own stretch of the buffer. `answers` gets the six numbers of
-// the answer to each. Settings that are not offered, and lists that are unfit, refuse the whole call: the buffer
-// is zeroed, and the answers are as they were.
+// the answer to each. Settings that are not offered, and lists that are unfit, refuse the whole call: the
+// buffer is zeroed, and the answers are as they were.
 pub fn read_batch(
     c: Settings,
     s: &[u8],

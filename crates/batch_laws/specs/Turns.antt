@@ -1,4 +1,5 @@
--- Laws of the loop over the documents of a batch: a write to one stretch leaves the others, and an answer leaves those before it.
+-- Laws of the loop over the documents of a batch: a write to one stretch leaves the others, and an answer
+-- leaves those before it.
 use Rattle.std.specs.Prelude.{ℕ, ◌+◌, ◌-◌, ◌*◌, ◌≤◌, ◌<◌, ◌≡◌, refl, Bool, true, false, List, [], ◌++◌, length, take, drop, get_or, leb}
 use Rattle.std.proofs.Common.{sym, ◌∙◌, arith, length-append, length-drop, drop_of_length-le, leb-true, leb-false, length-take-le, get_or-append-add, get_or-take, get_or-drop, ext_get_or}
 use Rattle.std.proofs.Math.Decide.{ℕ_discrete}
@@ -79,7 +80,8 @@ six_put l six part x k h e p =
     let none : drop answer_width (take answer_width (drop k l)) ≡ [] = drop_of_length-le (take answer_width (drop k l)) {i = answer_width} (omega (arith, stretch_length k answer_width l h)) in
     rw (p, whole, e, none)
 
--- What is known of the first n documents of a batch: each is answered in its own stretch, and the rest of the buffer is as it was.
+-- What is known of the first n documents of a batch: each is answered in its own stretch, and the rest of the
+-- buffer is as it was.
 pub record Done (l : Lent) (c : Settings) (s string : List ℕ) (b : Batch) (before given : List ℕ) (n : ℕ) (now answers : List ℕ) : Type 0 where
   pub few : n ≤ length b.starts
   pub same : length now ≡ length before
@@ -192,7 +194,8 @@ module _ (l : Lent) (c : Settings) (s string : List ℕ) (b : Batch) (before giv
               changed_outside now part from size ends whole k (h n (omega arith)) ∙ d.rest k (λ i z. h i (omega arith));
         }
 
-  -- The same as the code has it: the stretch is what lies between its start and its end, and keeps its length.
+  -- The same as the code has it: the stretch is what lies between its start and its end, and keeps its
+  -- length.
   pub done_again : (m : ℕ) (x : Answer) (part put : List ℕ) → m ≡ size → length part ≡ length (take m (drop from now))
       → PartAs l c s string (get_or b.starts n 0) (get_or b.lengths n 0) (take m (drop from now)) x part → answer_width * n + answer_width ≤ length answers → put ≡ replaced answers (answer_numbers x) (answer_width * n) answer_width
       → Done l c s string b before given (n + 1) (take from now ++ (part ++ drop m (drop from now))) put

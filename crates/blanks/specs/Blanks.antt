@@ -61,7 +61,8 @@ module _ (c : Settings) (s : List ℕ) (es : List Element) (d : List ℕ) (at : 
 
 -- Blanks
 
--- A blank is ignored where data does not fit, and begins a run where it does. The tables answer of the element e, which the open one is.
+-- A blank is ignored where data does not fit, and begins a run where it does. The tables answer of the
+-- element e, which the open one is.
 says : (s : List ℕ) (es : List Element) (o : Open) {e : ℕ} {r : Bool} → o.element ≡ e → r ≡ leb 1 ((decided s es).fits e o.taken pcdata) → r ≡ leb 1 (fitting s es (decided s es) o pcdata)
 says s es o n q = q ∙ ap (λ (k : ℕ). leb 1 ((decided s es).fits k o.taken pcdata)) (sym n)
 

@@ -1,5 +1,5 @@
--- What comes next at a position of a document under the settings c and a type, in the rules' terms: what stands
--- there, in the element that is open.
+-- What comes next at a position of a document under the settings c and a type, in the rules' terms: what
+-- stands there, in the element that is open.
 use Rattle.std.specs.Prelude.{ℕ, ◌+◌, ◌-◌, ◌≤◌, ◌<◌, ◌≡◌, true, List}
 use Rattle.rules.specs.Settings.{Settings}
 use Rattle.rules.specs.Reading.{got}
@@ -18,7 +18,8 @@ use Rattle.attribute_marks.specs.Marks.{Marked}
 use Rattle.blanks.specs.declared.Next.{Next}
 use Rattle.blanks.specs.declared.Next.TheVariants as next
 
--- A tag at `at`, up to `after`, that names the element x; 0 if none is declared so. The attributes that it gives are those of the element's list.
+-- A tag at `at`, up to `after`, that names the element x; 0 if none is declared so. The attributes that it
+-- gives are those of the element's list.
 pub record Names (c : Settings) (s : List ℕ) (es : List Element) (d : List ℕ) (l : Line) (o : Open) (kind : Tag → rules.Piece) (at x after : ℕ) : Type 0 where
   pub name : ℕ
   pub size : ℕ

@@ -2,8 +2,9 @@
 // 32, is data or ignored.
 //
 // `t` is what the document is read under (crate pieces), `begun` has the bits of what has begun in each open
-// element, `classes` is the table of delimiters. Where the tables are no type's, or what is handed over does
-// not stand there, what comes next is unspecified, but that its element is at most 64 and that it ends
+// element, `classes` is the table of delimiters. Where the tables are no type's, `found` does not stand there,
+// `begun`, `level`, `e` and `u` are those of no open element, or a place was taken though nothing came
+// (`line.since` is 0), what comes next is unspecified, but that its element is at most 64 and that it ends
 // further on, within the document.
 #![tactic(auto)]
 

@@ -180,7 +180,20 @@ pub asks_nothing :
     × ((κs : Lfts 9) (a : ArgsD c_batch.signature κs) → c_batch_reads.Asked κs a)
     × ((κs : Lfts 8) (a : ArgsD batch_call.signature κs) → batch_reads.Asked κs a)
     × ((κs : Lfts 1) (a : ArgsD value_call.signature κs) → value_reads.Asked κs a)
-asks_nothing = (λ κs a. tt, λ κs a. tt, λ κs a. tt, λ κs a. tt, λ κs a. tt, λ κs a. tt, λ κs a. tt, λ κs a. tt, λ κs a. tt, λ κs a. tt, λ κs a. tt, λ κs a. tt)
+asks_nothing = (
+  λ κs a. tt,
+  λ κs a. tt,
+  λ κs a. tt,
+  λ κs a. tt,
+  λ κs a. tt,
+  λ κs a. tt,
+  λ κs a. tt,
+  λ κs a. tt,
+  λ κs a. tt,
+  λ κs a. tt,
+  λ κs a. tt,
+  λ κs a. tt,
+)
 
 -- What C gets of `sgml_judge`: the number that is returned and the six numbers are those of one answer, and with what the lent bytes hold then it
 -- keeps the demands.
@@ -406,8 +419,8 @@ required_never_inferred = values.none_required
 
 -- "Never": so it is of each event that is noted up to any position that reading comes to, by whatever
 -- decisions, be the document refused later or not.
-pub required_never_inferred_before : (c : Settings) (s d : List ℕ) (es : List Element) (D : Decisions) (at : ℕ)
-    (l : Line) (z : State) → Passes c s es D d at l z → (e : Event) → Memᴰ e z.events → e.kind ≡ 2
+pub required_never_inferred_before : (c : Settings) (s d : List ℕ) (es : List Element) (D : Decisions)
+    (at : ℕ) (l : Line) (z : State) → Passes c s es D d at l z → (e : Event) → Memᴰ e z.events → e.kind ≡ 2
     → (1 ≤ e.number) × (e.number ≤ length es) × NoneRequired (element_at es (e.number - 1))
 required_never_inferred_before = values.none_required_before
 

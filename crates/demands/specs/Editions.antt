@@ -102,7 +102,7 @@ module _ (long first second : ℕ)
   answers_alike l before a after (ReadAs.accepts es ev w f e z) =
       ReadAs.accepts es ev (reads_alike es _ w) f e z
 
--- What is found at a position differs only where a byte 13 that would be data is passed over.
+-- What is found at a position differs only where a byte 13 outside tags and comments is passed over.
 module _ (long : ℕ) (d : List ℕ) (at : ℕ) (l : Line) (o : Open) where
   abbrev Differs : Reading Piece → Reading Piece → Type 0
   Differs one two = (one ≡ two)

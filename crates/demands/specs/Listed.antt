@@ -1,5 +1,6 @@
--- What the demands ask of the call that lists a type's attributes (paper 02, request one): `ListKeeps`, and
--- that it says all that the rules say; that they have an answer to every type file, and only one.
+-- The demands, said of a call that the papers do not name: the one that lists a type's attributes, for a
+-- caller who gets their events by number. That it refuses as the judge does is ours. `ListKeeps`, and that it
+-- says all that the rules say; that they have an answer to every type file, and only one.
 use Rattle.std.specs.Prelude.{ℕ, ◌*◌, ◌<◌, ◌≤◌, ◌≡◌, refl, false, ◌⊎◌, ◌↔◌, List, length, replicate}
 use Rattle.std.proofs.Common.{sym, ap, ◌∙◌, inl, inr, arith}
 use Rattle.std.proofs.Math.Decide.{ℕ_discrete, dec_lt}

@@ -43,9 +43,11 @@ pub older_catalogues : (c : Settings) (s d : List ℕ) (es : List Element) (r : 
 older_catalogues c s d es r x e = sym (first.first_edition_lem c s es x.decisions d e) ∙ x.reading
 
 -- "The record rule the only difference": at each position, whatever has been read before it, what is found
--- there in edition 2 is what is found in edition 1, be it refused or not, but that a byte 13 that would be
--- data is passed over where the line says so (`line_decides`). How the two go on from what is found is one
--- definition (`settle_piece` of the rules), and which events are cut then is `record_ends_lem`.
+-- there in edition 2 is what is found in edition 1, be it refused or not, but that a byte 13 outside tags and
+-- comments is passed over where the line says so. Where `#PCDATA` may come next the line says what the paper
+-- does (`line_decides`); where it may not, the byte is ignored in both editions. How the two go on from what
+-- is found is one definition (`settle_piece` of the rules), and which events are cut then is
+-- `record_ends_lem`.
 pub only_difference : (long : ℕ) (s : List ℕ) (es : List Element) (d : List ℕ) (at : ℕ) (l : Line) (o : Open)
     → (piece_under (settings long first_edition) s es d at l o
     ≡ piece_under (settings long second_edition) s es d at l o)

@@ -54,9 +54,9 @@ pub data Form : Type 0 where
 
 -- How a content model is written in the type file s: from i up to j stands what is read as g, in this form,
 -- behind the places ps, and qs are those with its own; `join` of the rules is the group of tokens joined by a
--- connector. "A group holds content tokens joined by one kind of connector"; a token is "a name, a name with an
--- indicator, `#PCDATA`, or a group with or without an indicator"; "the indicator ("?", "+", "*") follows at
--- once"; "`#PCDATA` counts as "*"".
+-- connector. "A group holds content tokens joined by one kind of connector"; a token is "a name, a name with
+-- an indicator, `#PCDATA`, or a group with or without an indicator"; "the indicator ("?", "+", "*") follows
+-- at once"; "`#PCDATA` counts as "*"".
 pub data Stands (s : List ℕ) : Form → (ps : List Place) (i : ℕ) → Group → (qs : List Place) (j : ℕ)
     → Type 0 where
   name : {ps : List Place} {i : ℕ} → letter (byte_at s i) ≡ true
@@ -116,11 +116,11 @@ abbrev pub NoneRepeats : List ℕ → List Element → Type 0
 NoneRepeats s es = (g : Group) (ps : List Place) → ModelOf es g ps
     → (i : ℕ) × (j : ℕ) × (w : Stands s whole [] i g ps j) × ((p : ℕ) → Repeats w p → ⊥)
 
--- "That is number 25 at the first such "&"". It stands in the model of one element, as that model is written,
--- and none stands before it there; the models of the elements declared before have none; the elements
--- declared after stand behind it. The places have their positions in the type file, so that `written` is of
--- this element's model and of no other. Where such an "&" stands the group is not `Guarded`, as
--- `SomeRepeated` has it.
+-- Paper 02: "that is number 25 at the first such "&"". It stands in the model of one element, as that model
+-- is written, and none stands before it there; the models of the elements declared before have none; the
+-- elements declared after stand behind it. The places have their positions in the type file, so that
+-- `written` is of this element's model and of no other. Where such an "&" stands the group is not `Guarded`,
+-- as `SomeRepeated` has it.
 pub record RepeatsFirst (c : Settings) (s : List ℕ) (a : Answer) : Type 0 where
   pub earlier : List Element
   pub element : Element

@@ -34,8 +34,8 @@ EventsOf c s es d numbers numbers_after bytes bytes_after (Ok n) =
     Written bytes bytes_after (bytes_of (event_numbers ev)) × (n < 4294967296)
 EventsOf c s es d numbers numbers_after bytes bytes_after (Err f) = document c s es (decided s es) d ≡ refused f.number f.at
 
--- Whatever the tables hold: where it is not refused there are so many events at most. A token takes at least a
--- byte, and brings at most 1050 events.
+-- Whatever the tables hold: where it is not refused there are so many events at most. A token takes at least
+-- a byte, and brings at most 1050 events.
 abbrev pub Counted : (d : List ℕ) → Result ℕ Fault → Type 0
 Counted d (Ok n) = n ≤ MOST_EVENTS * (length d + 1)
 Counted d (Err f) = Unit {0}

@@ -213,7 +213,8 @@ piece_refuses {c} {s} {d = d} {at = at} {since = since} {mark = mark} marks g in
     let came = g.any es i t l in
     refused_unread c s es d at (line_of since mark) came.state inside came.reaches f.number f.at (rw q at (said es i l))
 
--- A turn of the loop: the document has something at `at`, and this is what `next_at` ensures of it, the attributes of a start tag being marked.
+-- A turn of the loop: the document has something at `at`, and this is what `next_at` ensures of it, the
+-- attributes of a start tag being marked.
 pub record Turn (c : Settings) (s elements index rows places facts M lists d begun numbers numbers_now bytes bytes_now : List ℕ) (n at since mark from : ℕ) (o : OpenElements) (p : Next) (marks : List ℕ) : Type 0 where
   pub going : Going c s elements index rows places facts M lists d begun numbers numbers_now bytes bytes_now n at since mark from o
   pub inside : at < length d

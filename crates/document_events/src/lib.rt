@@ -23,9 +23,9 @@ use text::{Reading, Refusal};
 
 // How many events the document d has under a type. Its events go to a buffer of numbers and to one of bytes,
 // each as far as they fit. What a buffer holds that is too small for all of them, or where the document is
-// refused, is not decided; it keeps its length, and the reader zeroes it. Where the tables are no type's, neither
-// the answer nor what the buffers hold is decided, but that there are at most 1050 events for each byte of the
-// document, and for its end.
+// refused, is not decided; it keeps its length, and the reader zeroes it. Where the tables are no type's,
+// neither the answer nor what the buffers hold is decided, but that there are at most 1050 events for each
+// byte of the document, and for its end.
 //
 // Kept: n beside `numbers` and `bytes`: (plainer) n counts on where an event no longer fits, so that it is no
 // length of theirs, and each of the two may be too short alone.
@@ -41,7 +41,8 @@ pub fn events_of(
 ) -> Reading<usize>
     requires { Classes classes.now × (t.long ≤ most_name_length) × (length d.now ≤ document_limit) ×
         (length t.file.now ≤ type_limit) }
-    ensures by_type { (es : List Element) → Indexed t.entry.file.now es t.entry.elements.now t.entry.index.now →
+    ensures by_type { (es : List Element) →
+        Indexed t.entry.file.now es t.entry.elements.now t.entry.index.now →
         Tables t.entry.file.now es t.entry.tables.rows.now t.entry.tables.places.now t.entry.tables.facts.now
         t.entry.tables.members.now →
         Lists t.entry.long t.entry.file.now es t.entry.lists.now →

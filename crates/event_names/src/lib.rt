@@ -105,8 +105,8 @@ impl<'a> Names<'a> {
         None
     }
 
-    // The name of the attribute a of the element e, and a space after it: by the first record that is of both, and
-    // the space alone where none is.
+    // The name of the attribute a of the element e, and a space after it: by the first record that is of
+    // both, and the space alone where none is.
     fn put_attribute(self, line: &mut Line, e: u32, a: u32)
         requires { line.old.at + program_name_length + 1 ≤ length line.old.out.now }
         ensures same_reference { line.new.out.ghost_name ≡ line.old.out.ghost_name }

@@ -34,8 +34,8 @@ fn end_fault(facts: &[u8; FACTS], o: OpenElements) -> Result<(), Refusal>
 }
 
 // Ends are inferred until the current element is x, or there is nothing around it. Where that is refused no
-// state is handed back, and of what the buffers hold nothing is decided, but that at most so many ends are put
-// behind the n events as elements were open.
+// state is handed back, and of what the buffers hold nothing is decided, but that at most so many ends are
+// put behind the n events as elements were open.
 pub fn end_until(
     facts: &[u8; FACTS],
     state: OpenElements,

@@ -45,15 +45,17 @@ pub record ListAt (long : ℕ) (s l : List ℕ) (b : ℕ) (xs : List Attribute) 
 abbrev pub Lists : ℕ → (s : List ℕ) → List Element → (l : List ℕ) → Type 0
 Lists long s es l = (k : ℕ) → k < length es → ListAt long s l (LIST * k) (element_at es k).attributes
 
--- The row r was put as that of the attribute k, from 0, of a list by itself, which has k + 1 then, and nothing else changed.
+-- The row r was put as that of the attribute k, from 0, of a list by itself, which has k + 1 then, and
+-- nothing else changed.
 pub record Added (k : ℕ) (r : Row) (before after : List ℕ) : Type 0 where
   pub long : length after ≡ length before
   pub counted : get_or after 0 0 ≡ k + 1
   pub row : row_in after (1 + ATTRIBUTE * k) ≡ r
   pub rest : (j : ℕ) → 1 ≤ j → (j < 1 + ATTRIBUTE * k) ⊎ (1 + ATTRIBUTE * (k + 1) ≤ j) → get_or after j 0 ≡ get_or before j 0
 
--- One list was put where that of an element stands: what was a list by itself is one there, and all other lists are what they were. Nothing changed but there, and of a list nothing
--- but its rows; whatever was put, each number there is one that was put, or as it was.
+-- One list was put where that of an element stands: what was a list by itself is one there, and all other
+-- lists are what they were. Nothing changed but there, and of a list nothing but its rows; whatever was put,
+-- each number there is one that was put, or as it was.
 pub record Copied (list : List ℕ) (from : ℕ) (before after : List ℕ) : Type 0 where
   pub long : length after ≡ length before
   pub outside : (j : ℕ) → (j < from) ⊎ (from + LIST ≤ j) → get_or after j 0 ≡ get_or before j 0

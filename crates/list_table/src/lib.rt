@@ -88,8 +88,8 @@ pub fn attribute(lists: &[u16], e: ElementNo, k: usize) -> Row
     row_at(lists, LIST * (e.0 - 1) + 1 + ATTRIBUTE * k)
 }
 
-// The attribute k of a list by itself, from 0, which had k before. Whatever stood there: its row is put, it is
-// the last, and nothing else changes.
+// The attribute k of a list by itself, from 0, which had k before. Whatever stood there: its row is put, it
+// is the last, and nothing else changes.
 pub fn put_attribute(list: &mut [u16; LIST], k: usize, r: Row)
     requires { (k < ATTCNT) × Short r }
     ensures puts_row { Added k r list.old list.new }
@@ -105,9 +105,9 @@ pub fn put_attribute(list: &mut [u16; LIST], k: usize, r: Row)
     list[0] = (k + 1) as u16;
 }
 
-// A list by itself as that of the element k + 1: its rows are copied, and nothing else changes. Where it is no
-// list, what the table has for that element is not decided, but that each number there is as it was or the one
-// of `list`.
+// A list by itself as that of the element k + 1: its rows are copied, and nothing else changes. Where it is
+// no list, what the table has for that element is not decided, but that each number there is as it was or the
+// one of `list`.
 pub fn put_list(lists: &mut [u16], k: usize, list: &[u16; LIST])
     requires { (k < element_limit) × (length lists.old ≡ LISTS) }
     ensures { Copied list.now (LIST * k) lists.old lists.new }
@@ -119,8 +119,8 @@ pub fn put_list(lists: &mut [u16], k: usize, list: &[u16; LIST])
     }
 }
 
-// Whether one of the element's attributes is required: its start tag is never inferred. Where the table has no
-// list of the element the answer is not decided.
+// Whether one of the element's attributes is required: its start tag is never inferred. Where the table has
+// no list of the element the answer is not decided.
 pub fn needs_tag(lists: &[u16], e: ElementNo) -> bool
     requires { (1 ≤ e.0) × (e.0 ≤ element_limit) }
     ensures { (long : ℕ) (s : List ℕ) (xs : List Attribute) → ListAt long s lists.now (LIST * (e.0 - 1)) xs → result ≡ needs_tag xs }

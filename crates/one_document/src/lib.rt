@@ -63,13 +63,14 @@ pub fn under<'x>(
     }
 }
 
-// The events of the document under a type whose tables are filled, as bytes. No numbers are lent: that there are
-// none is seen here, where the single call and the batch both come by, so that the loop writes bytes alone. Where
-// the tables are no type's, neither the answer nor what the bytes hold is decided, but that there are at most
-// 1050 events for each byte of the document, and for its end.
+// The events of the document under a type whose tables are filled, as bytes. No numbers are lent: that there
+// are none is seen here, where the single call and the batch both come by, so that the loop writes bytes
+// alone. Where the tables are no type's, neither the answer nor what the bytes hold is decided, but that
+// there are at most 1050 events for each byte of the document, and for its end.
 pub fn follow(t: Type, d: &[u8], bytes: &mut [u8]) -> Reading<usize>
     requires { (t.long ≤ most_name_length) × (length d.now ≤ document_limit) × (length t.file.now ≤ type_limit) }
-    ensures by_type { (es : List Element) → Indexed t.entry.file.now es t.entry.elements.now t.entry.index.now →
+    ensures by_type { (es : List Element) →
+        Indexed t.entry.file.now es t.entry.elements.now t.entry.index.now →
         Tables t.entry.file.now es t.entry.tables.rows.now t.entry.tables.places.now t.entry.tables.facts.now t.entry.tables.members.now →
         Lists t.entry.long t.entry.file.now es t.entry.lists.now →
         EventsOf (settings t.entry.long t.entry.edition) t.entry.file.now es d.now [] [] bytes.old bytes.new result }

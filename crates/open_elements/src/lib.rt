@@ -86,10 +86,11 @@ fn weighed(m: Option<Place>, complete: bool, kept: Place) -> Marks
     }
 }
 
-// The place that is kept higher by `RAISE`, or 0. Of one that is not kept so the answer is not decided, but that
-// it is at most 96.
+// The place that is kept higher by `RAISE`, or 0. Of one that is not kept so the answer is not decided, but
+// that it is at most 96.
 fn lowered(kept: Place) -> Place
-    ensures { (result.0 ≤ GRPGTCNT) × (GRPGTCNT < kept.0 → kept.0 ≤ RAISE + GRPGTCNT → result.0 ≡ kept.0 - RAISE) }
+    ensures { (result.0 ≤ GRPGTCNT) ×
+        (GRPGTCNT < kept.0 → kept.0 ≤ RAISE + GRPGTCNT → result.0 ≡ kept.0 - RAISE) }
 {
     let n = kept.0 % RAISE;
     if GRPGTCNT < n {

@@ -90,10 +90,10 @@ pub fn shown_end(edition: usize, d: &[u8], after: usize) -> usize
     after
 }
 
-// The run of data from `from` up to `since`, whose last byte is data after all: it goes over the event of
-// the run without that byte, or behind n events where there is none. It gives how many events there are.
-// Where the run is empty, or the n events do not end with it so, neither what the buffers hold is decided, but
-// that they keep their length, nor how many events there are, but that they are at most n + 1.
+// The run of data from `from` up to `since`, whose last byte is data after all: it goes over the event of the
+// run without that byte, or behind n events where there is none. It gives how many events there are. Where
+// the run is empty, or the n events do not end with it so, neither what the buffers hold is decided, but that
+// they keep their length, nor how many events there are, but that they are at most n + 1.
 pub fn put_held(numbers: &mut [u32], bytes: &mut [u8], n: usize, from: usize, since: usize) -> usize
     requires { (n < 4294967296) × (from ≤ since) × (since < 4294967296) }
     ensures { PutsWhole numbers.old bytes.old n from since result numbers.new bytes.new }

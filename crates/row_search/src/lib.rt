@@ -81,7 +81,8 @@ pub fn largest_among(
     p: Place,
 ) -> Place
     requires { (level ≤ TAGLVL) × (e.0 ≤ element_limit) × (u.0 ≤ GRPGTCNT) }
-    ensures { LargestRaised (BothSay rows.now members.now begun.now level e.0 u.0) places.now e.0 p.0 result.0 }
+    ensures { LargestRaised (BothSay rows.now members.now begun.now level e.0 u.0) places.now e.0 p.0
+        result.0 }
 {
     if p.0 < RAISE {
         return Place(0);

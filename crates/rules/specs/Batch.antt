@@ -51,8 +51,9 @@ pub data Unfit (b : Batch) (answers room : ℕ) : Type 0 where
   sharing : (i j k : ℕ) → i < j → j < length b.starts → Has b i k → Has b j k → Unfit b answers room
   passing : (i : ℕ) → i < length b.starts → room < get_or b.froms i 0 + get_or b.sizes i 0 → Unfit b answers room
 
--- "A part whose start plus length passes the string's end is number 1 for that document only": it stands where
--- the order has a document's 1, behind 24 and the type's 1. A batch reads no part under 24.
+-- "A part whose start plus length passes the string's end is number 1 for that document only": it stands
+-- where the order has a document's 1, behind 24 and the type's 1. Under 24 a batch reads no part, so that the
+-- first case is none of a batch: it is what a part by itself would be answered.
 pub data RefusesPart (c : Settings) (s : List ℕ) (a : Answer) : Type 0 where
   not_offered : is_offered c ≡ false → a ≡ refusal 24 0 0 0 → RefusesPart c s a
   type_too_long : is_offered c ≡ true → type_limit < length s → a ≡ refusal 1 0 0 0 → RefusesPart c s a
@@ -61,7 +62,8 @@ pub data RefusesPart (c : Settings) (s : List ℕ) (a : Answer) : Type 0 where
 -- "All other answers equal those of the single calls." What the part of the string that starts here and is so long comes to in its stretch of the buffer.
 pub data PartAs (l : Lent) (c : Settings) (s string : List ℕ) (start size : ℕ) (before : List ℕ) (a : Answer) (after : List ℕ) : Type 0 where
   within : start + size ≤ length string → ReadAs l c s (stretch start size string) before a after → PartAs l c s string start size before a after
-  passes : length string < start + size → RefusesPart c s a → after ≡ zeroed before → PartAs l c s string start size before a after
+  passes : length string < start + size → RefusesPart c s a → after ≡ zeroed before
+      → PartAs l c s string start size before a after
 
 -- "Each document's own given stretch of the buffer is its lent buffer; the rest stays."
 pub record AllRead (l : Lent) (c : Settings) (s string : List ℕ) (b : Batch) (before answers after : List ℕ) : Type 0 where
@@ -71,12 +73,12 @@ pub record AllRead (l : Lent) (c : Settings) (s string : List ℕ) (b : Batch) (
   pub same_length : length after ≡ length before
   pub answers_length : length answers ≡ answer_width * length b.starts
 
--- What the call answers as a whole, and what the lent buffer, `before` the call, and the answers hold after it.
--- Settings that are not offered are 24, "in the type at 0, before even 23" (request six), whatever the lists
--- are. Lists that are unfit are "23, in the type at 0, the buffer zero, before anything else". Both refuse the
--- whole call, and "on refusal the whole buffer is zero and the count is 0" (paper 01); the answers are then as
--- they were: that is ours. Otherwise the whole call is accepted with so many documents, whatever the answer to
--- each is.
+-- What the call answers as a whole, and what the lent buffer, `before` the call, and the answers hold after
+-- it. Settings that are not offered are 24, "in the type at 0, before even 23" (request six), whatever the
+-- lists are. Lists that are unfit are "23, in the type at 0, the buffer zero, before anything else". Both
+-- refuse the whole call, and "on refusal the whole buffer is zero and the count is 0" (paper 01); the answers
+-- are then as they were: that is ours. Otherwise the whole call is accepted with so many documents, whatever
+-- the answer to each is.
 pub data Batched (l : Lent) (c : Settings) (s string : List ℕ) (b : Batch) (before given : List ℕ) (a : Answer)
     (answers after : List ℕ) : Type 0 where
   not_offered : is_offered c ≡ false → a ≡ refusal 24 0 0 0 → answers ≡ given → after ≡ zeroed before

@@ -440,7 +440,10 @@ group_token long s seen ps i =
           | false ↦ elim (is_token s (seen ++ ps) i (e - i)) [ true ↦ refused 20 i | false ↦ got (record { at = i; size = e - i }) ]
         ]
       ]
-      | false ↦ elim (eqb (byte_at s i) DSO || eqb (byte_at s i) PERO) [ true ↦ refused 5 i | false ↦ refused 4 i ]
+      | false ↦ elim (eqb (byte_at s i) DSO || eqb (byte_at s i) PERO) [
+        | true ↦ refused 5 i
+        | false ↦ refused 4 i
+      ]
     ]
 
 -- The tokens of a group and where it ends.

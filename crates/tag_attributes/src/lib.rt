@@ -69,8 +69,8 @@ pub fn specification_at(long: usize, classes: &[u8; 256], s: &[u8], i: usize) ->
 }
 
 // Kept: numbers of 16 bits in an array that is lent, with their count beside (fixed: fixed memory, no heap).
-// The attribute is kept as the n-th of its tag, from 0, unless ATTCNT + 1 are kept already, and `given` stays as
-// it was; gives how many are kept then. What `given` holds behind one that is kept is not decided.
+// The attribute is kept as the n-th of its tag, from 0, unless ATTCNT + 1 are kept already, and `given` stays
+// as it was; gives how many are kept then. What `given` holds behind one that is kept is not decided.
 pub fn keep(given: &mut [u16; GIVEN], n: usize, w: Written) -> usize
     requires { (n ≤ ATTCNT + 1) × WrittenFits w }
     ensures { Keeps given.old n w given.new result }

@@ -91,8 +91,8 @@ fn markup_at(
     Err(Refusal::Malformed.at(i + 2))
 }
 
-// What begins at i, where a declaration may begin. Where it is refused, what `elements` and `heads` hold is not
-// decided, nor is it of what stands behind the records.
+// What begins at i, where a declaration may begin. Where it is refused, what `elements` and `heads` hold is
+// not decided, nor is it of what stands behind the records.
 fn declaration_at(
     long: usize,
     s: &[u8],
@@ -125,8 +125,8 @@ fn declaration_at(
     Err(Refusal::Malformed.at(i))
 }
 
-// The whole type file, where a name may have at most `long` bytes. What stands in `elements` behind the records of its elements, and on
-// refusal in all of it and in `heads`, is not decided.
+// The whole type file, where a name may have at most `long` bytes. What stands in `elements` behind the
+// records of its elements, and on refusal in all of it and in `heads`, is not decided.
 pub fn file_read(
     long: usize,
     s: &[u8],

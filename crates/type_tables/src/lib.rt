@@ -15,8 +15,8 @@
 // are 1 where the start may be omitted, the end may be omitted, and the content is a model.
 //
 // Whatever the tables hold, each function ends and stays within them. Where they are no type's, what
-// `fitting`, `fitting_first`, `takes_data`, `startable` and `inferable` answer is not decided, but that a place
-// is at most 96 and an element at most 64.
+// `fitting`, `fitting_first`, `takes_data`, `startable` and `inferable` answer is not decided, but that a
+// place is at most 96 and an element at most 64.
 //
 // Kept: `Place(0)` and `ElementNo(0)` for none: (plainer) the tables have 0 there, and so have the rules
 // (`fits` of their decisions, `required_place`, `inferable`), which the contracts equate with the answers as
@@ -110,8 +110,8 @@ pub fn has_model(facts: &[u8; FACTS], e: ElementNo) -> bool
 }
 
 // The place of the name x that may come next in the element e after the place u at the level, or 0. Of a name
-// that is not declared, or where the bits are not those of the places taken in e, it is not decided, but that it
-// is at most 96.
+// that is not declared, or where the bits are not those of the places taken in e, it is not decided, but that
+// it is at most 96.
 pub fn fitting(
     t: TypeTables,
     begun: &[u32; BEGUN],
@@ -135,8 +135,8 @@ pub fn fitting(
     row_search::largest(t.rows, t.places, e, u, p)
 }
 
-// Whether data may come next in the element e after the place u at the level. Where the tables are no type's, or
-// the bits are not those of the places taken in e, it is not decided.
+// Whether data may come next in the element e after the place u at the level. Where the tables are no type's,
+// or the bits are not those of the places taken in e, it is not decided.
 pub fn takes_data(t: TypeTables, begun: &[u32; BEGUN], level: usize, e: ElementNo, u: Place) -> bool
     requires { (level ≤ TAGLVL) × (e.0 ≤ element_limit) × (u.0 ≤ GRPGTCNT) }
     ensures { (s : List ℕ) (es : List Element) → Tables s es t.entry.rows.now t.entry.places.now
@@ -153,7 +153,8 @@ pub fn takes_data(t: TypeTables, begun: &[u32; BEGUN], level: usize, e: ElementN
     q.0 != 0
 }
 
-// The place that one of the facts is, which is higher by `RAISE` where the model has an "&"; 0 where it is none.
+// The place that one of the facts is, which is higher by `RAISE` where the model has an "&"; 0 where it is
+// none.
 fn lowered(p: Place) -> Place
     ensures { Lowered p.0 result.0 }
 {
@@ -170,8 +171,8 @@ fn lowered(p: Place) -> Place
 }
 
 // The place of the name x that may come next at the start of the element e, or 0. Nothing has begun there, so
-// the row decides. Where e or the name is not declared, or the tables are no type's, it is not decided, but that
-// it is at most 96.
+// the row decides. Where e or the name is not declared, or the tables are no type's, it is not decided, but
+// that it is at most 96.
 pub fn fitting_first(t: TypeTables, e: ElementNo, x: ElementNo) -> Place
     requires { (e.0 ≤ element_limit) × (x.0 ≤ element_limit) }
     ensures by_index { (s : List ℕ) (es : List Element) (M : List ℕ) →
@@ -185,8 +186,8 @@ pub fn fitting_first(t: TypeTables, e: ElementNo, x: ElementNo) -> Place
     row_search::largest(t.rows, t.places, e, none, lowered(p))
 }
 
-// The element whose start is to be inferred in the element e where the place p is required, or 0. Where another
-// place is required, or none, it is not decided, but that it is at most 64.
+// The element whose start is to be inferred in the element e where the place p is required, or 0. Where
+// another place is required, or none, it is not decided, but that it is at most 64.
 pub fn startable(t: TypeTables, e: ElementNo, p: Place) -> ElementNo
     requires { e.0 ≤ element_limit }
     ensures by_index { (s : List ℕ) (es : List Element) (rows M : List ℕ) →

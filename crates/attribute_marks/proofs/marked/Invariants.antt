@@ -1,4 +1,5 @@
--- `marked` meets its contract. The invariant: the first k attributes are listed and marked, and the first misfit among them is remembered, where it stands in the document.
+-- `marked` meets its contract. The invariant: the first k attributes are listed and marked, and the first
+-- misfit among them is remembered, where it stands in the document.
 use Prim.Native.Nat.{◌*◌, ◌-◌, ◌≤◌, ◌+◌}
 use Rattle.std.specs.Prelude.{IfSome, length}
 use Rattle.rules.specs.Bytes.{ATTCNT}
