@@ -19,10 +19,11 @@ use Rattle.rules.specs.Ambiguity.{Ambiguous, PairAtFault}
 use Rattle.rules.specs.TypeFile.{Place, Element, type_file}
 use Rattle.rules.specs.Judge.{same_place, Answer, refusal, Legible, Refuses, Accepts, Judged, record_width}
 use Rattle.rules.specs.Events.{Event, event_width}
+use Rattle.rules.specs.Attributes.{needs_tag}
 use Rattle.rules.specs.Elements.{element_at}
 use Rattle.rules.specs.Given.{attributes_before, with_attributes, value_bytes}
 use Rattle.rules.specs.Decisions.{Decisions}
-use Rattle.rules.specs.Settling.{State, nothing_open, is_complete}
+use Rattle.rules.specs.Settling.{Open, State, nothing_open, is_complete, inferable}
 use Rattle.rules.specs.Acts.{Acts, Deeds, IsStart, Took, Passes, Few}
 use Rattle.rules.specs.Records.{Line, records_settled}
 use Rattle.rules.specs.Reader.{BothLegible, Reads, RefusesBoth, ReadAs}
@@ -423,6 +424,12 @@ pub required_never_inferred_before : (c : Settings) (s d : List ℕ) (es : List 
     (at : ℕ) (l : Line) (z : State) → Passes c s es D d at l z → (e : Event) → Memᴰ e z.events → e.kind ≡ 2
     → (1 ≤ e.number) × (e.number ≤ length es) × NoneRequired (element_at es (e.number - 1))
 required_never_inferred_before = values.none_required_before
+
+-- Nor within a token that is refused then: whatever start may be inferred in an open element, by whatever
+-- decisions, is of an element without one.
+pub required_never_inferable : (s : List ℕ) (es : List Element) (D : Decisions) (o : Open)
+    → 1 ≤ inferable s es D o → needs_tag (element_at es (inferable s es D o - 1)).attributes ≡ false
+required_never_inferable = kept.required_never_inferable
 
 -- "Written values are literals in either quote": of each event e of a document that is read, if it is of kind
 -- 7 its value is a part of the document, and if it is of kind 8 a part of the type file, which stands between

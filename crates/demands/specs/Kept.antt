@@ -1,6 +1,7 @@
 -- The demands proved, one theorem each: Demands has them together, to be read first.
-use Rattle.std.specs.Prelude.{ℕ, ◌*◌, ◌<◌, ◌≤◌, ◌≡◌, refl, false, ◌||◌, ◌↔◌, List, ◌++◌, length, eqb}
-use Rattle.std.proofs.Common.{sym, ◌∙◌, ap, ⊎_elim, arith}
+use Rattle.std.specs.Prelude.{ℕ, ◌-◌, ◌*◌, ◌<◌, ◌≤◌, ◌≡◌, refl, false, ◌||◌, ◌↔◌, List, ◌++◌, length, eqb}
+use Rattle.std.proofs.Common.{sym, ◌∙◌, ap, ⊎_elim, arith, le-leb}
+use Rattle.std.proofs.lemmas.Bool.{not-true}
 use Rattle.rules.specs.Settings.{Settings, is_offered}
 use Rattle.rules.specs.Lent.{Lent, room}
 use Rattle.rules.specs.Reading.{got}
@@ -11,7 +12,11 @@ use Rattle.rules.specs.Judge.{same_place, Answer, refusal, Legible, Refuses, no_
 use Rattle.rules.specs.Events.{Event, event_width}
 use Rattle.rules.specs.Given.{attributes_before, with_attributes}
 use Rattle.rules.specs.Decisions.{Decisions, Means}
-use Rattle.rules.specs.Settling.{State}
+use Rattle.rules.specs.Attributes.{needs_tag}
+use Rattle.rules.specs.Elements.{element_at}
+use Rattle.rules.specs.Settling.{Open, State, inferable}
+use Rattle.document_laws.specs.Chain.{inferable_may}
+use Rattle.basic_laws.specs.Truth.{and_right}
 use Rattle.rules.specs.Acts.{Deeds, IsStart, Took}
 use Rattle.rules.specs.Records.{is_end, records_settled}
 use Rattle.rules.specs.Reader.{BothLegible, Reads, RefusesBoth, ReadAs}
@@ -237,3 +242,10 @@ told_among c s es accepted D means d {y} deeds before e (there first last i j) =
               (z, did, ap (λ (v : List Event). with_attributes c.name_length s es d v ++ attributes_before c.name_length s es d e) shows ∙ sym j, t),
           other,
         )
+
+-- Paper 02, request one: no start of an element with a required attribute may be inferred in an open element.
+pub required_never_inferable : (s : List ℕ) (es : List Element) (D : Decisions) (o : Open)
+    → 1 ≤ inferable s es D o → needs_tag (element_at es (inferable s es D o - 1)).attributes ≡ false
+required_never_inferable s es D o some =
+    not-true _ (and_right (eqb (element_at es (inferable s es D o - 1)).start 1) _
+    (inferable_may s es D o (le-leb 1 (inferable s es D o) some)).start)
