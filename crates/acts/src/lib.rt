@@ -1,2 +1,2 @@
-// Every reading of the rules is a sequence of acts, one for each event. No code.
+// Every reading by the rules is a sequence of acts, one for each event. No code.
 #![tactic(auto)]

@@ -1,10 +1,10 @@
-// What has begun of the "&" groups of the open elements when a place is taken, and what it decides then: whether the content is complete, and which place is
-// required.
+// What has begun of the "&" groups of the open elements when a place is taken, and what follows from it:
+// whether the content is complete, and which place is required.
 //
-// All of it is asked of sets of members: those that hold a place, those of the groups around it, those that
-// cannot be nothing, those that have begun. Where the table tells no model, or the bits are not those of the
-// places taken in it, what `take` answers is not decided, but that it is none or a place and that the bits of
-// every other level stay.
+// All of it is computed from sets of members: those that hold a place, those of the groups around it, those
+// that cannot be nothing, those that have begun. If the table describes no model, or the bits are not those
+// of the places taken in it, the result of `take` is unspecified, except that it is none or a place and that
+// the bits of every other level are unchanged.
 #![tactic(auto)]
 
 ghost use Rattle.std.specs.Prelude.{ℕ, ◌-◌, ◌≤◌, ◌<◌, IfSome};

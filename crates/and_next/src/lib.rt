@@ -1,7 +1,8 @@
 // Which place may come next after what has begun of the "&" groups of an open element.
 //
-// A place is forbidden by a member: one that must come first, of a group that would be left, or the one that has the place, where it has begun and was left. Where
-// the table tells no model, or the bits are not those of the places taken in it, what `may_follow` answers is not decided.
+// A place is forbidden by a member: one that must come first, of a group that would be left, or the one that
+// contains the place, if it has begun and was left. If the table describes no model, or the bits are not
+// those of the places taken in it, the result of `may_follow` is unspecified.
 #![tactic(auto)]
 
 ghost use Rattle.std.specs.Prelude.{◌≤◌, ◌<◌};

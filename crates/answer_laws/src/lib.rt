@@ -1,2 +1,2 @@
-// The rules settle one answer of each call. No code.
+// The rules determine exactly one answer of each call. No code.
 #![tactic(auto)]

@@ -1,4 +1,4 @@
-// The reader's answer as the six numbers that C gets.
+// The reader's answer as the six numbers that a C caller receives.
 #![tactic(auto)]
 
 ghost use Rattle.std.specs.Prelude.{◌≡◌};

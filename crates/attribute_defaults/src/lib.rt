@@ -1,7 +1,7 @@
 // The default of an attribute: `#REQUIRED`, `#IMPLIED` or a literal that fits the declared value.
 //
-// A default has two numbers: 0 `#REQUIRED`, 1 `#IMPLIED`, else where the value of the literal begins; and how
-// long that value is.
+// A default has two numbers: 0 for `#REQUIRED`, 1 for `#IMPLIED`, else the offset of the literal's value; and
+// the length of that value.
 #![tactic(auto)]
 
 ghost use Rattle.std.specs.Prelude.{◌≡◌, List, ℕ, ◌+◌, ◌≤◌, ◌<◌, length};

@@ -1,8 +1,8 @@
-// The attribute events before a start event, in declaration order: those that a tag gives, and those that
+// The attribute events before a start event, in declaration order: those that a tag specifies, and those that
 // are defaulted.
 //
-// `lists` is that of the crate list_table, `marks` that of attribute_marks. n is how many events there are
-// so far; they are put to `numbers` and `bytes` (crate event_buffer).
+// `lists` is that of the crate list_table, `marks` that of attribute_marks. n is the number of events so far;
+// they are written to `numbers` and `bytes` (crate event_buffer).
 #![tactic(auto)]
 
 ghost use Rattle.std.specs.Prelude.{◌+◌, ◌≤◌, ◌<◌};

@@ -1,6 +1,6 @@
 // Attribute definition lists: which element one is for, its definitions, and the table of all of them.
 //
-// `heads` has for each element where its name ends in its list, or 0 where it has none.
+// `heads` has for each element the offset at which its name ends in its list, or 0 if it has none.
 // Kept: 0 for none (fixed: no heap, fixed memory: callers lend numbers of 16 bits).
 #![tactic(auto)]
 

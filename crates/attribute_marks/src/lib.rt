@@ -1,7 +1,9 @@
-// The attributes that a start tag gives, held against the list of its element: each declared and given once, its value fitting, none that is required missing.
+// The attributes that a start tag specifies, checked against the list of its element: each is declared and
+// specified once, its value fits, and no required one is missing.
 //
-// `lists` is that of the crate list_table, `given` has the attributes of a tag as they are read (crate tag_attributes). `marks` has for each attribute of the element where its written value begins in the document, and how
-// long it is; 0 where it is not written.
+// `lists` is that of the crate list_table, `given` has the attributes of a tag as they are read (crate
+// tag_attributes). `marks` has for each attribute of the element the offset and length of its specified value
+// in the document; 0 if it is not specified.
 // Kept: 0 for none (fixed: no heap, fixed memory: callers lend numbers of 16 bits, and attribute_events reads
 // them).
 #![tactic(auto)]

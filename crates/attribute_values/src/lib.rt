@@ -1,7 +1,7 @@
-// The value of an attribute: which part of which text it is, and whether it fits what is declared.
+// The value of an attribute: which part of which text it is, and whether it fits the declared value.
 //
-// A declared value has a number: 0 CDATA, 1 NUMBER, 2 NAME, else where the "(" of a name token group stands
-// in the type file.
+// A declared value has a number: 0 for CDATA, 1 for NUMBER, 2 for NAME, else the offset of the "(" of a name
+// token group in the type file.
 #![tactic(auto)]
 
 ghost use Rattle.std.specs.List.{list_all};

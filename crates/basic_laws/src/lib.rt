@@ -1,2 +1,2 @@
-// Laws only: what the crates need of truth values and numbers and the library does not have.
+// Laws only: what the crates need about booleans and numbers and the library does not provide.
 #![tactic(auto)]

@@ -1,5 +1,6 @@
-// Many documents under one type in one call (paper 02, request five). The type is judged once, and its tables are filled once; then each document is put in its
-// order with what was judged, and read into its own stretch of the buffer.
+// Many documents under one type in one call (paper 02, request five). The type is judged once, and its tables
+// are filled once; then each document is ordered with the verdict on the type, and read into its own stretch
+// of the buffer.
 #![tactic(auto)]
 
 ghost use Rattle.std.specs.Prelude.{◌≡◌, ◌+◌, ◌*◌, ◌≤◌, ◌<◌, length, replicate};

@@ -1,4 +1,4 @@
-// One part of a string of documents, read into its stretch of the buffer under a type that is judged.
+// One part of a string of documents, read into its stretch of the buffer under a type that has been judged.
 #![tactic(auto)]
 
 ghost use Rattle.std.specs.Prelude.{[]};

@@ -1,6 +1,7 @@
 // Which members of the "&" groups of the open elements have begun.
 //
-// `begun` has three numbers for each level, the document's first, then those of the open elements: a bit for each member, from the first.
+// `begun` has three numbers for each level, the document's first, then those of the open elements: one bit
+// for each member, from the first on.
 #![tactic(auto)]
 
 ghost use Rattle.std.specs.Prelude.{◌≤◌};

@@ -1,9 +1,9 @@
 // How an end tag and the document's end close open elements.
 //
-// `facts` is a table of the type (crate type_tables). Whether an open element is complete is kept with it. n
-// events stand in the buffers before. Where the table is no type's, or the state stands in none, what is
-// brought is not decided, but that the state's numbers are in range, that so many events were put as are
-// counted, and that the number of a refusal is below 20.
+// `facts` is a table of the type (crate type_tables). Whether an open element is complete is kept with it.
+// The buffers hold n events before. If the table is not that of a type, or the state is not one of that type,
+// the result is unspecified, except that the state's numbers are in range, that as many events were written
+// as are counted, and that the number of a refusal is below 20.
 #![tactic(auto)]
 
 ghost use Rattle.std.specs.Prelude.{◌+◌, ◌≤◌, ◌<◌};

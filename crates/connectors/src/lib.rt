@@ -1,4 +1,5 @@
-// Connectors and occurrence indicators: two groups of a model joined, a group repeated or left out, each with what it adds to the model's table.
+// Connectors and occurrence indicators: two groups of a model joined, a group repeated or optional, each with
+// what it adds to the model's table.
 #![tactic(auto)]
 
 ghost use Rattle.std.specs.Prelude.{◌≡◌, ◌&&◌, ◌||◌, List, eqb, ℕ, ◌+◌, ◌≤◌, length};

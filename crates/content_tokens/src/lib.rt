@@ -1,4 +1,5 @@
-// The content tokens of a model that are no groups: a name and `#PCDATA`, each with what it adds to the model's places and to its table.
+// The content tokens of a model that are not groups: a name and `#PCDATA`, each with what it adds to the
+// model's places and to its table.
 #![tactic(auto)]
 
 ghost use Rattle.std.specs.Prelude.{◌≡◌, false, ◌+◌, ◌*◌, ◌≤◌, ◌<◌, length};

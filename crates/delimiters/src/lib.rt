@@ -1,6 +1,6 @@
 // What marks the beginning of markup: delimiters before a byte that lets them be recognized.
 //
-// A table of byte classes, 256 numbers, is handed down by all readers of a document (`Classes` of the specs).
+// A table of byte classes, 256 numbers, is passed down by all readers of a document (`Classes` of the specs).
 #![tactic(auto)]
 
 ghost use Rattle.std.specs.Prelude.{◌≡◌, ◌&&◌, ◌||◌, ◌+◌, ◌<◌, length, eqb, leb};

@@ -1,4 +1,4 @@
--- The demands proved, one theorem each: Demands has them together, to be read first.
+-- The proofs of the demands, one theorem each; Demands has them together and is to be read first.
 use Rattle.std.specs.Prelude.{ℕ, ◌-◌, ◌*◌, ◌<◌, ◌≤◌, ◌≡◌, refl, false, ◌||◌, ◌↔◌, List, ◌++◌, length, eqb}
 use Rattle.std.proofs.Common.{sym, ◌∙◌, ap, ⊎_elim, arith, le-leb}
 use Rattle.std.proofs.lemmas.Bool.{not-true}

@@ -1,6 +1,7 @@
--- The calls for C themselves: the routine of each in the crate sgml, as it was proved, meets the contract whose `ensures` is what the page says of the call.
--- So nothing stands between the page and the code but the contract that both share, and the export of sgml_c, which calls that routine under the same clauses.
--- The routine is what the call's name means wherever its code is (`Wired`).
+-- The calls of the crate sgml: the routine of each, as it was proved, meets the contract whose `ensures` is
+-- what the page states about it. So nothing stands between the page and the code but the contract that both
+-- share. The exports of sgml_c are one call further out, under the same clauses. The routine is what the
+-- call's name means wherever its code is linked (`Wired`).
 use seplogic.Ra.Ura.{Ura}
 use prog.Model.{Model}
 use prog.Routine.{Routine}

@@ -1,6 +1,8 @@
--- Record ends in edition 2 and in edition 1 (paper 02, request eight), of every document that is read and so of the events that every accepted call of the reader
--- gives (`ReaderKeeps` of Demands has `acceptance_whole`). The words are in RecordEnds of the rules: what came in each element, and the three cases over what stands before and
--- after a byte 13 there. The line by which reading decides them from left to right (Records of the rules) is proved equal to them, and has not to be believed.
+-- Record ends in edition 2 and in edition 1 (paper 02, request eight), for every document that is read, and
+-- so for the events that every accepted call of the reader returns (`ReaderKeeps` of Demands has
+-- `acceptance_whole`). The terms are in RecordEnds of the rules: what came in each element, and the three
+-- cases by what precedes and follows a byte 13 there. The line by which reading decides them from left to
+-- right (Records of the rules) is proved equivalent, and need not be believed.
 use Rattle.std.specs.Prelude.{ℕ, ◌+◌, ◌≤◌, ◌≡◌, true, false, ◌⊎◌, ◌↔◌, List, [], ◌∷◌, ◌++◌}
 use Rattle.std.proofs.Common.{sym, ◌∙◌}
 use Rattle.rules.specs.Settings.{Settings, settings, first_edition, second_edition, is_second}

@@ -1,4 +1,4 @@
--- The words of the demands: what a refusal and an acceptance are, and demand 3's words about models.
+-- The terms of the demands: what a refusal and an acceptance are, and demand 3's terms about models.
 use Rattle.std.specs.Prelude.{ℕ, ◌+◌, ◌-◌, ◌*◌, ◌<◌, ◌≤◌, ◌≡◌, true, ◌⊎◌, ◌↔◌, length}
 use mathlib.Core.List.{List, [], ◌∷◌, ◌++◌, Memᴰ}
 use Rattle.rules.specs.Settings.{Settings}

@@ -1,7 +1,8 @@
 // The events of a document under a type whose tables are filled.
 //
-// `t` is what the document is read under (crate pieces), `classes` is the table of delimiters. Where the
-// tables are no type's, neither the answer nor what the buffers hold is decided; the loop ends all the same.
+// `t` is what the document is read under (crate pieces), `classes` is the table of delimiters. If the tables
+// are not those of a type, the answer and the contents of the buffers are unspecified; the loop still
+// terminates.
 #![tactic(auto)]
 
 ghost use Rattle.std.specs.Prelude.{List, ◌≤◌, length};

@@ -1,2 +1,3 @@
-// Laws of the document half of the rules: settling walked once, and that the walks decide one reading of every document. No code.
+// Laws of the document half of the rules: one pass over settling, and that the walks determine one reading of
+// every document. No code.
 #![tactic(auto)]

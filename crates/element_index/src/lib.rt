@@ -1,8 +1,8 @@
 // The elements of a type by name.
 //
-// `index`: number k is the next larger element whose name has the same length and first letter as that of
-// k, or 0. Number `CONTENTS` + b is the smallest element of the bucket b. `elements` are the records of the
-// type's elements.
+// `index`: entry k is the next larger element whose name has the same length and first letter as that of k,
+// or 0. Entry `CONTENTS` + b is the smallest element of bucket b. `elements` are the records of the type's
+// elements.
 #![tactic(auto)]
 
 ghost use Rattle.std.specs.Prelude.{◌≡◌, List, ◌+◌, ◌-◌, ◌*◌, ◌≤◌, ◌<◌, length, get_or, replicate};

@@ -1,4 +1,4 @@
-// The lent buffers: an event is written behind those before.
+// The lent buffers: an event is written after the previous ones.
 #![tactic(auto)]
 
 ghost use Rattle.std.specs.Prelude.{◌≤◌, length, ◌≡◌, ◌∷◌, [], ◌+◌, ◌*◌, ◌<◌};

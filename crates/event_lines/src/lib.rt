@@ -1,4 +1,5 @@
-// The text of events and of a refusal, put into a buffer word by word. What the buffer holds behind the text is not decided.
+// The text of events and of a refusal, written into a buffer word by word. What the buffer holds after the
+// text is unspecified.
 #![tactic(auto)]
 
 ghost use Rattle.std.specs.Prelude.{◌≡◌, ◌+◌, ◌*◌, ◌≤◌, ◌<◌, length, take};

@@ -1,4 +1,4 @@
-// The names that the lines of events have, put into a line.
+// The names in the lines of events, written into a line.
 #![tactic(auto)]
 
 ghost use Rattle.std.specs.Prelude.{◌≡◌, ◌||◌, ◌+◌, ◌-◌, ◌≤◌, ◌<◌, ◌*◌, length, eqb};

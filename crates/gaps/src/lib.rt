@@ -1,4 +1,5 @@
-// What stands between the parameters of a declaration: separators and comments, to the next byte of another kind; and where a comment ends.
+// What separates the parameters of a declaration: separators and comments, to the next byte of another kind;
+// and where a comment ends.
 #![tactic(auto)]
 
 ghost use Rattle.std.specs.Prelude.{◌≡◌, true, ◌+◌, ◌≤◌, ◌<◌, length, drop};

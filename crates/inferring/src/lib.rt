@@ -1,10 +1,11 @@
-// The ends and starts that are inferred before a start tag or a run of data, their events put behind those
-// before.
+// The ends and starts that are inferred before a start tag or a run of data, their events written after the
+// previous ones.
 //
-// `t` are the tables of the type (crate type_tables). x is the element that starts, or 0 for data. n is how
-// many events there are so far; they are put to `numbers` and `bytes` (crate event_buffer). Where the tables
-// are no type's, or the state stands in none, which ends and starts are inferred is not decided, but that the
-// state's numbers are in range and that so many events were put as are counted.
+// `t` are the tables of the type (crate type_tables). x is the element that starts, or 0 for data. n is the
+// number of events so far; they are written to `numbers` and `bytes` (crate event_buffer). If the tables are
+// not those of a type, or the state is not one of that type, which ends and starts are inferred is
+// unspecified, except that the state's numbers are in range and that as many events were written as are
+// counted.
 #![tactic(auto)]
 
 ghost use Rattle.std.specs.Prelude.{◌+◌, ◌≤◌, ◌<◌};

@@ -1,5 +1,5 @@
-// What a call is given, before it is read: the settings are among those that the paper names, neither input is too long, and every byte
-// is allowed.
+// Checks on what a call is given, before it is read: the settings are supported, neither input is too long,
+// and every byte is allowed.
 #![tactic(auto)]
 
 ghost use Rattle.std.specs.Prelude.{◌≡◌};

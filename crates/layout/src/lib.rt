@@ -1,6 +1,7 @@
-// How large the tables are that are lent from crate to crate. A quantity of the paper that changes is changed here and in the
-// rules: in `rules/specs/Bytes.antt`, or where the request that has it stands (`Settings`, `Batch`, `Printed`); `specs/Sizes.antt` has the sizes for the laws. Places and elements'
-// numbers, which stand in these tables, have a type each, so that they cannot be mixed.
+// The sizes of the tables that are lent from crate to crate. A quantity of the paper that changes is changed
+// here and in the rules: in `rules/specs/Bytes.antt`, or in the file of the request that defines it
+// (`Settings`, `Batch`, `Printed`); `specs/Sizes.antt` has the sizes for the laws. The places and element
+// numbers in these tables have a type each, so that they cannot be confused.
 #![tactic(auto)]
 
 // The shortest length that a caller may give names, and the longest.

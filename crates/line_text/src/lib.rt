@@ -1,5 +1,5 @@
-// Words put into a buffer one behind another. What the buffer holds behind the line's end is not decided; what stands
-// before it stays.
+// Words written into a buffer one after another. What the buffer holds after the line's end is unspecified;
+// what is before it is unchanged.
 #![tactic(auto)]
 
 ghost use Rattle.std.specs.Prelude.{◌≡◌, [], ◌∷◌, ◌+◌, ◌≤◌, ◌<◌, length};

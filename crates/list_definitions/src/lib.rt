@@ -1,4 +1,4 @@
-// The definitions of one attribute list, as rows of a list by itself (crate list_table).
+// The definitions of one attribute list, as rows of a list of its own (crate list_table).
 #![tactic(auto)]
 
 ghost use Rattle.std.specs.Prelude.{◌≡◌, ◌&&◌, ◌+◌, ◌≤◌, ◌<◌, length, eqb, leb};

@@ -1,10 +1,11 @@
 // The attribute lists of a type, as a table.
 //
-// For each element how many attributes it has, then five numbers for each of them: where its name stands, how long that is, the declared value (0 CDATA, 1 NUMBER, 2 NAME, else
-// where the "(" of its name token group stands), the default (0 `#REQUIRED`, 1 `#IMPLIED`, else where the value of its literal begins) and how long that value is. Where no
-// element has a list the table is empty.
+// For each element how many attributes it has, then five numbers for each of them: the offset and length of
+// its name, the declared value (0 CDATA, 1 NUMBER, 2 NAME, else the offset of the "(" of its name token
+// group), the default (0 `#REQUIRED`, 1 `#IMPLIED`, else the offset of its literal's value) and the length of
+// that value. If no element has a list, the table is empty.
 //
-// Whatever the table holds, each function ends and stays within it.
+// Whatever the table holds, each function terminates and stays within it.
 #![tactic(auto)]
 
 ghost use Rattle.std.specs.Prelude.{◌≡◌, List, [], ◌∷◌, ◌++◌, ℕ, ◌+◌, ◌*◌, ◌-◌, ◌≤◌, ◌<◌, length, get_or};

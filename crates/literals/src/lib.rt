@@ -1,4 +1,4 @@
-// Literals: values in either quote, in a type file and in a tag.
+// Literals: values in either kind of quotes, in a type file and in a tag.
 #![tactic(auto)]
 
 ghost use Rattle.std.specs.Prelude.{◌≡◌, true, ◌<◌, length};

@@ -1,8 +1,10 @@
-// What the table of the members of "&" groups keeps of one member, and of one group.
+// What the table of the members of "&" groups holds for one member, and for one group.
 //
-// Of each content: for each position the innermost member that holds the place, or 0, and `ENDING` more where the place can end that member; for each member its
-// group; for each member the place that it requires at its start, or 0; for each group its first member, how many of its members cannot be nothing, how many
-// there are, and the innermost member that holds it, or 0, and `ENDING` more where that member can end with this group.
+// For each content: for each position the innermost member that contains the place, or 0, and `ENDING` more
+// where the place can end that member; for each member its group; for each member the place that it requires
+// at its start, or 0; for each group its first member, how many of its members cannot be nothing, how many
+// there are, and the innermost member that contains it, or 0, and `ENDING` more where that member can end
+// with this group.
 // Kept: 0 for none (fixed: no heap, fixed memory: the numbers are bytes of one table).
 #![tactic(auto)]
 

@@ -1,2 +1,2 @@
-// What the table of the members of "&" groups tells, and what has begun of them. No code.
+// What the table of the members of "&" groups means, and which of them have begun. No code.
 #![tactic(auto)]

@@ -1,5 +1,6 @@
-// What the crates and_groups and and_next ask of the groups around a group, besides what the crate member_table has put: the members that hold it, those of the groups around
-// it, how far out these can end with it; and which members cannot be nothing.
+// What the crates and_groups and and_next need to know of the groups around a group, besides what the crate
+// member_table has written: the members that contain it, those of the groups around it, how far out these can
+// end with it; and which members cannot be empty.
 #![tactic(auto)]
 
 ghost use Rattle.std.specs.Prelude.{◌≡◌, ◌+◌, ◌*◌, ◌≤◌, ◌<◌, IsTrue, ◌↔◌, ◌++◌, length, take, drop, set};

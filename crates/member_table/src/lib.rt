@@ -1,7 +1,9 @@
-// The members of a model's "&" groups, from its code: what the crates and_groups and and_next ask, but for the sets, which the crate member_sets puts.
+// The members of a model's "&" groups, from its code: what the crates and_groups and and_next need to know,
+// except for the sets, which the crate member_sets writes.
 //
-// Groups count from 1 in the order of their ")", so that an inner one comes before those around it; members count from 1, group after group, in each those that
-// cannot be nothing first. What is kept of each says the crate member_entries.
+// Groups count from 1 in the order of their ")", so that an inner one comes before those around it; members
+// count from 1, group after group, in each those that cannot be nothing first. What is stored for each is
+// described in the crate member_entries.
 #![tactic(auto)]
 
 ghost use Rattle.std.specs.Prelude.{◌≡◌, ◌+◌, ◌*◌, ◌≤◌, ◌<◌};

@@ -1,7 +1,8 @@
-// A content model as postfix code, behind the rows of its table, and what a pass over it with a stack says of two places.
+// A content model as postfix code, stored after the rows of its table, and what a pass over it with a stack
+// determines of two places.
 //
-// A place stands as its number; the numbers below are none of a place, and stand each behind the groups that it joins or changes. A group of k
-// members joined by "&" ends with `AND_CODE` + k.
+// A place is represented by its number; the numbers below are operators, and each follows the groups that it
+// joins or changes. A group of k members joined by "&" ends with `AND_CODE` + k.
 #![tactic(auto)]
 
 ghost use Rattle.std.specs.Prelude.{◌≡◌, ◌<◌, ◌&&◌, ◌||◌};

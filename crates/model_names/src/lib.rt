@@ -1,4 +1,4 @@
-// The names of a model's places: where each stands in the type file and how long it is.
+// The names of a model's places: the offset of each in the type file, and its length.
 #![tactic(auto)]
 
 ghost use Rattle.std.specs.Prelude.{◌≡◌, [], ◌∷◌, ◌++◌, ℕ, ◌+◌, ◌*◌, ◌-◌, ◌≤◌, ◌<◌, get_or, set};

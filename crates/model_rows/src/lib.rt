@@ -1,4 +1,4 @@
-// The rows of a model's table, put into the rows of a type as bits.
+// The rows of a model's table, written into the rows of a type as bits.
 //
 // The layout is that of the crate type_tables.
 #![tactic(auto)]

@@ -1,2 +1,2 @@
-// What can be computed of a content model, and that it says of its walks what the rules mean. No code.
+// What can be computed from a content model, and that it describes the walks of the rules. No code.
 #![tactic(auto)]

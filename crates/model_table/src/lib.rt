@@ -1,10 +1,11 @@
 // The table of a content model, filled as the model is read.
 //
-// It has `POSITIONS` rows of `MODEL_ROW` numbers. Row 0 is the start, row u is after the place u; the places are 1 to 96.
-// Column 0 is 1 where the content is complete, column p is 1 where the place p may come next, the last column is the
-// required place, or 0. While a model is read, row 0 holds the places that can begin, and column 0 those that can
-// end, the innermost finished group around them. The places of a group are [lo, hi). A row is cleared when its place is read: what
-// the model before left in the rows behind the last place, and in the code behind what is put there, nobody reads.
+// It has `POSITIONS` rows of `MODEL_ROW` numbers. Row 0 is the start, row u is after the place u; the places
+// are 1 to 96. Column 0 is 1 where the content is complete, column p is 1 where the place p may come next,
+// the last column is the required place, or 0. While a model is read, row 0 holds the places that can begin,
+// and column 0 those that can end, the innermost finished group around them. The places of a group are [lo,
+// hi). A row is cleared when its place is read: what the previous model left in the rows after the last
+// place, and in the code after what is written there, is never read.
 #![tactic(auto)]
 
 ghost use Rattle.std.specs.Prelude.{◌≡◌, ◌≤◌, ◌<◌, true, false};

@@ -1,3 +1,3 @@
-// At every moment of a reading: what the open elements of the program are beside the state of the rules. No
+// At every moment of a reading: how the open elements of the program correspond to the state of the rules. No
 // code.
 #![tactic(auto)]

@@ -1,6 +1,6 @@
 // Name token groups: tokens joined by one connector, each for the first time in its list.
 //
-// `seen` has the tokens of a list so far: of each where it stands and how long it is.
+// `seen` has the tokens of a list so far: for each its offset and length.
 //
 // Kept: two numbers of 16 bits a token in one array (fixed: no heap, fixed memory).
 // Kept: how many of them are tokens is handed on beside it (plainer: a refusal leaves `seen` undecided and

@@ -1,4 +1,4 @@
-// Numbers and bytes: one of them as an index, and numbers written as they stand or as four bytes each.
+// Numbers and bytes: one of them as an index, and numbers written as they are or as four bytes each.
 #![tactic(auto)]
 
 ghost use Rattle.std.specs.Prelude.{◌≡◌, ◌∷◌, [], ◌+◌, ◌*◌, ◌≤◌, ◌<◌, length, take};

@@ -1,4 +1,5 @@
-// One document under a type that is judged and whose tables are filled: its events, the answer, number 19 where they do not fit, and a buffer that a refusal zeroes.
+// One document under a type that has been judged and whose tables are filled: its events, the answer, number
+// 19 if they do not fit, and a buffer that a refusal zeroes.
 #![tactic(auto)]
 
 ghost use Rattle.std.specs.Prelude.{◌≡◌, List, [], ℕ, ◌≤◌, length};

@@ -1,12 +1,12 @@
-// How a start tag or a run of data takes its place in the current element, its events put behind those
-// before.
+// How a start tag or a run of data takes its place in the current element, its events written after the
+// previous ones.
 //
-// `t` are the tables of the type (crate type_tables). x is the element that starts, or 0 for data. n is how
-// many events there are so far; they are put to `numbers` and `bytes` (crate event_buffer). A start tag ends
+// `t` are the tables of the type (crate type_tables). x is the element that starts, or 0 for data. n is the
+// number of events so far; they are written to `numbers` and `bytes` (crate event_buffer). A start tag ends
 // at `shown`, and data is shown up to there: a byte 13 that ends a run may turn out to be ignored, and is
-// then no part of its event. Where the tables are no type's, or the state stands in none, what a token brings
-// is not decided, but that the state's numbers are in range, that so many events were put as are counted, and
-// that the number of a refusal is below 20.
+// then no part of its event. If the tables are not those of a type, or the state is not one of that type, the
+// result is unspecified, except that the state's numbers are in range, that as many events were written as
+// are counted, and that the number of a refusal is below 20.
 #![tactic(auto)]
 
 ghost use Rattle.std.specs.Prelude.{◌+◌, ◌≤◌, ◌<◌};

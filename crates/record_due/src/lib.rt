@@ -1,2 +1,2 @@
-// What events are due where the current element may end here (paper 02, request eight). No code.
+// Which events are due where the current element may end here (paper 02, request eight). No code.
 #![tactic(auto)]

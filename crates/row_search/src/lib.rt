@@ -1,7 +1,9 @@
-// The place of a name that may come next, searched in the rows and along the links of a type's tables, which the crate type_tables says.
+// The place of a name that may come next, searched in the rows and along the links of a type's tables, which
+// the crate type_tables describes.
 //
-// Whatever the tables hold, each function ends and stays within them: a link that does not fall ends the search. Where the places of a name are not
-// linked so, or rows and bits are no type's, what is found is not decided, but that it is at most 96.
+// Whatever the tables hold, each function terminates and stays within them: a link that does not decrease
+// ends the search. If the places of a name are not linked so, or rows and bits are not those of a type, the
+// result is unspecified, except that it is at most 96.
 #![tactic(auto)]
 
 ghost use Rattle.std.specs.Prelude.{◌≡◌, ◌+◌, ◌*◌, ◌/◌, ◌%◌, ◌≤◌, ◌<◌};

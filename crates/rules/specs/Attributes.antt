@@ -1,5 +1,5 @@
 -- Attributes: what a type declares of them, and what fits as a value (paper 02, request one; ISO 8879, 11.3).
--- How they are declared is in TypeFile, how a tag gives them in Document.
+-- How they are declared is in TypeFile, how a tag specifies them in Document.
 use Rattle.std.specs.Prelude.{ℕ, zero, suc, ◌+◌, Bool, true, false, not, ◌&&◌, ◌||◌, List, [], ◌∷◌, length, take, drop, eqb, leb, ltb}
 use Rattle.rules.specs.Bytes.{byte_at, letter, digit, name_byte, span, same_text, TAB, RS, RE, LIT, RNI, AND, LITA}
 use Rattle.rules.specs.Reading.{Reading, refused, got}

@@ -1,4 +1,4 @@
--- What walks decide of a token in an open element (paper 01, "The document").
+-- What walks determine about a token in an open element (paper 01, "The document").
 use Rattle.std.specs.Prelude.{ℕ, ◌-◌, ◌≤◌, ◌≡◌, Bool, true, ◌↔◌, List}
 use Rattle.rules.specs.Walk.{Group, Begins, MayComeNext, Complete, Required}
 use Rattle.rules.specs.TypeFile.{Place, model, Element, same_name}

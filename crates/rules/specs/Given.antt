@@ -1,5 +1,5 @@
--- The attributes of a start tag held against the list of its element, and the events that come before a start (paper 02, request one), with
--- refusals 20, 22 and 21.
+-- The attributes of a start tag checked against the list of its element, and the events that precede a start
+-- (paper 02, request one), with refusals 20, 22 and 21.
 use Rattle.std.specs.Prelude.{ℕ, ◌+◌, ◌-◌, Bool, true, false, not, ◌&&◌, ◌||◌, List, [], ◌∷◌, ◌++◌, length, eqb, leb}
 use Rattle.rules.specs.Reading.{Reading, refused, got, and_then}
 use Rattle.rules.specs.Attributes.{Part, bytes_in, Default, required, implied, literal, Attribute, is_called, attribute_of, attribute_at, is_required, fits}

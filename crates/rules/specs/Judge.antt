@@ -1,4 +1,5 @@
--- The type judge's answer and what its lent buffer holds after (paper 01, "What the reader takes and gives", "Refusal numbers", order).
+-- The type judge's answer and what its lent buffer holds afterwards (paper 01, "What the reader takes and
+-- gives", "Refusal numbers", order).
 use Rattle.std.specs.Prelude.{ℕ, zero, suc, ◌-◌, ◌*◌, ◌<◌, ◌≤◌, ◌≡◌, Bool, true, false, List, [], ◌∷◌, ◌++◌, length, eqb}
 use Rattle.rules.specs.Settings.{Settings, is_offered}
 use Rattle.rules.specs.Bytes.{allowed, span, type_limit}

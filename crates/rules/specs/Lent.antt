@@ -1,4 +1,4 @@
--- What a call is lent, and how numbers stand in it (paper 01, "What the reader takes and gives").
+-- What a call is lent, and how numbers are stored in it (paper 01, "What the reader takes and gives").
 use Rattle.std.specs.Prelude.{ℕ, ◌/◌, ◌%◌, List, [], ◌∷◌, ◌++◌, length, drop, replicate}
 
 -- "A lent buffer of 32-bit numbers", or, called from C, of bytes.

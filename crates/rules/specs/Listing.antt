@@ -1,5 +1,6 @@
--- The attributes of a type, for a caller who gets events of kinds 7 and 8 by their numbers and wants their names and what is declared of them (paper 02,
--- request one). The papers name no such call; its order of refusals is the judge's.
+-- The attributes of a type, for a caller who receives events of kinds 7 and 8 by number and needs their names
+-- and declarations (paper 02, request one). The papers name no such call; its order of refusals is the
+-- judge's.
 use Rattle.std.specs.Prelude.{ℕ, ◌+◌, ◌*◌, ◌<◌, ◌≤◌, ◌≡◌, List, [], ◌∷◌, ◌++◌, length}
 use Rattle.rules.specs.Settings.{Settings}
 use Rattle.rules.specs.Bytes.{element_limit}

@@ -1,4 +1,5 @@
--- Reading with no word of record ends, as it stood before request eight of paper 02: what "older catalogues keep", edition 1, is said by it on the page.
+-- Reading without the rule for record ends, as it was before request eight of paper 02: the page states by it
+-- what "older catalogues keep", edition 1.
 use Rattle.std.specs.Prelude.{ℕ, zero, suc, true, false, List, length, leb}
 use Rattle.rules.specs.Reading.{Reading, refused, got, and_then}
 use Rattle.rules.specs.TypeFile.{Element}

@@ -1,4 +1,5 @@
--- The document reader's answer and what its lent buffer holds after (paper 01, "What the reader takes and gives", "Refusal numbers", order).
+-- The document reader's answer and what its lent buffer holds afterwards (paper 01, "What the reader takes
+-- and gives", "Refusal numbers", order).
 use Rattle.std.specs.Prelude.{ℕ, zero, suc, ◌+◌, ◌*◌, ◌<◌, ◌≤◌, ◌≡◌, true, false, List, [], ◌∷◌, length, leb}
 use Rattle.rules.specs.Settings.{Settings, is_offered}
 use Rattle.rules.specs.Bytes.{allowed, span, type_limit, document_limit}

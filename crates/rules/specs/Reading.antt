@@ -1,4 +1,5 @@
--- What reading a piece of input gives: something, or a refusal by number and position (paper 01, "Refusal numbers").
+-- The result of reading a piece of input: something, or a refusal by number and position (paper 01, "Refusal
+-- numbers").
 use Rattle.std.specs.Prelude.{ℕ}
 
 pub data Reading (A : Type 0) : Type 0 where

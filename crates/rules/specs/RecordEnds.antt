@@ -1,5 +1,6 @@
--- Record ends in the words of paper 02, request eight: what is data in edition 2 by what came in the element. Reading decides it in another way, from left
--- to right (Records); that both are the same is proved in the crate record_laws.
+-- Record ends in the words of paper 02, request eight: what is data in edition 2, by what came in the
+-- element. Reading decides it differently, from left to right (Records); that both agree is proved in the
+-- crate record_laws.
 use Rattle.std.specs.Prelude.{ℕ, ◌+◌, ◌≤◌, ◌<◌, ◌≡◌, Bool, true, false, ◌||◌, ◌⊎◌, ◌↔◌, length, drop, eqb, leb}
 use mathlib.Core.List.{List, [], ◌∷◌, ◌++◌, Memᴰ}
 use Rattle.rules.specs.Settings.{Settings}

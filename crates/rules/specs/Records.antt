@@ -1,5 +1,5 @@
--- Record ends as reading decides them, from left to right (paper 02, request eight). That these are the three cases of RecordEnds is proved in the crate
--- record_laws.
+-- Record ends as reading decides them, from left to right (paper 02, request eight). That this is equivalent
+-- to the three cases of RecordEnds is proved in the crate record_laws.
 use Rattle.std.specs.Prelude.{ℕ, zero, suc, ◌+◌, ◌-◌, Bool, true, false, not, ◌&&◌, ◌||◌, List, [], ◌∷◌, ◌++◌, eqb, leb, ltb}
 use Rattle.rules.specs.Bytes.{byte_at, RS, RE}
 use Rattle.rules.specs.Settings.{Settings, is_second}

@@ -1,5 +1,6 @@
--- What the caller chooses for a call (paper 02, requests six and eight): all that the rules take from the caller besides the inputs and what is lent
--- stands here, so that a further choice is a field and a clause of `is_offered`.
+-- What the caller chooses for a call (paper 02, requests six and eight): everything that the rules take from
+-- the caller besides the inputs and what is lent is here, so that a further choice is a field and a clause of
+-- `is_offered`.
 use Rattle.std.specs.Prelude.{ℕ, Bool, ◌&&◌, eqb, leb}
 
 -- "Names may be as long as a number .. that the caller gives": NAMELEN, the longest name. "The caller gives the edition, 1 or 2": by which rule record

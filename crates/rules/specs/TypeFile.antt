@@ -1,9 +1,9 @@
--- The type file: declarations, parameters, comments and model groups (paper 01, "The type file"), with refusals 3 to 8, where the "&" of
--- number 25 stands (paper 02, request twelve), and attribute definition lists with refusals 10, 20 and 22 (request one), which "take their
--- turn among 3 to 8".
--- Numbers 3 and 5 read "with the given length for 8" (paper 02, request six): `long` is that length.
--- Reading goes from left to right and refuses at the first fault, the lower number first where two stand at one position.
--- A byte at which no form goes on is the unfit one of number 4; past the end it is 0, so the position is then the length.
+-- The type file: declarations, parameters, comments and model groups (paper 01, "The type file"), with
+-- refusals 3 to 8, where the "&" of number 25 is (paper 02, request twelve), and attribute definition lists
+-- with refusals 10, 20 and 22 (request one), which "take their turn among 3 to 8". Numbers 3 and 5 read "with
+-- the given length for 8" (paper 02, request six): `long` is that length. Reading goes from left to right and
+-- refuses at the first fault, by the lower number if there are two at one position. A byte at which no form
+-- can continue is the unfit byte of number 4; past the end it is 0, so that the position is then the length.
 use Rattle.std.specs.Prelude.{ℕ, zero, suc, ◌+◌, ◌-◌, Bool, true, false, ◌&&◌, ◌||◌, List, [], ◌∷◌, ◌++◌, length, drop, eqb, leb, ltb}
 use Rattle.rules.specs.Bytes.{byte_at, letter, name_end, separators_end, same_text, GRPCNT, GRPLVL, GRPGTCNT, ATTCNT, element_limit, EXCLAMATION, RNI, PERO, AND, GRPO, GRPC, REP, PLUS, SEQ, MINUS, STAGO, MDC, OPT, DSO, OR}
 use Rattle.rules.specs.Reading.{Reading, refused, got, and_then}

@@ -1,2 +1,3 @@
-// Laws of the rules: what holds of a reading, and the type file and a document's pieces walked once, for every other law to cite. No code.
+// Laws of the rules: what holds for a reading, and one pass over the type file and over a document's pieces,
+// for every other law to cite. No code.
 #![tactic(auto)]

@@ -1,4 +1,4 @@
-// The calls for C: numbers and byte slices. The crate sgml_c exports them.
+// The calls for C, on numbers and byte slices. The crate sgml_c exports them.
 #![tactic(auto)]
 
 ghost use Rattle.std.specs.Prelude.{◌≡◌};

@@ -1,5 +1,5 @@
-// Reads the type file `type.sgm` and the document `doc.sgm` of the folder that it runs in, and prints the document's
-// events or the one refusal.
+// Reads the type file `type.sgm` and the document `doc.sgm` in the current directory, and prints the
+// document's events or the one refusal.
 #![tactic(auto)]
 
 ghost use Rattle.rules.specs.Printed.{Prints};

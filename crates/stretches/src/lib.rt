@@ -1,7 +1,8 @@
-// Stretches of a string or of a buffer, by where they start and how long they are: whether one ends within it, whether two share a number, and whether the
-// lists of a batch can be read by.
+// Stretches of a string or of a buffer, by start and length: whether one ends within it, whether two share a
+// number, and whether the lists of a batch fit.
 //
-// No sum of a start and a length is made before it is known to be within: it may be larger than a number can be.
+// No start and length are added before their sum is known to be within: it may be larger than a number can
+// be.
 #![tactic(auto)]
 
 ghost use Rattle.std.specs.Prelude.{◌≡◌, ◌+◌, ◌<◌, leb, length};

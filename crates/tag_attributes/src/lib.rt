@@ -1,4 +1,4 @@
-// An attribute in a start tag: how it is read, and how the attributes of a tag are kept.
+// An attribute in a start tag: how it is read, and how the attributes of a tag are stored.
 #![tactic(auto)]
 
 ghost use Rattle.std.specs.Prelude.{◌≡◌, ◌≤◌, ◌<◌, ◌+◌, length};

@@ -1,2 +1,2 @@
-// What events are due behind a token and behind an end tag (paper 02, request eight). No code.
+// Which events are due after a token and after an end tag (paper 02, request eight). No code.
 #![tactic(auto)]

@@ -1,2 +1,3 @@
-// Laws of settling: how a reader goes on from piece to piece, and that a run of data is settled at once. No code.
+// Laws of settling: how a reader proceeds from piece to piece, and that a run of data is settled as a whole.
+// No code.
 #![tactic(auto)]

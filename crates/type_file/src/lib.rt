@@ -1,4 +1,5 @@
-// The whole type file: separators, comment declarations, element declarations and attribute lists to its end, or the first refusal.
+// A whole type file: separators, comment declarations, element declarations and attribute lists to its end,
+// or the first refusal.
 //
 // `heads` is that of the crate attribute_lists.
 #![tactic(auto)]

@@ -1,7 +1,8 @@
-// How far a type file comes: judged once, whatever documents are read under it.
+// How far the judging of a type file gets: it is judged once, whatever documents are read under it.
 //
-// "1 type, 1 document, 2 type, 2 document; the type file's 3 to 8 ..": a document's 1 comes before the type's 2, and its 2 before what else the type is
-// refused for. So the type's refusal is kept with the stage at which it came, and each document is put in order with it.
+// "1 type, 1 document, 2 type, 2 document; the type file's 3 to 8 ..": a document's 1 comes before the type's
+// 2, and its 2 before what else the type is refused for. So the type's refusal is stored with its stage, and
+// each document is ordered with it.
 #![tactic(auto)]
 
 ghost use Rattle.std.specs.Prelude.{◌≡◌, List, ℕ, replicate};

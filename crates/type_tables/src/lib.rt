@@ -1,4 +1,4 @@
-// What the document reader asks of an accepted type, kept in tables.
+// What the document reader needs to know of an accepted type, stored in tables.
 //
 // Elements have the numbers 1 to 64, in declaration order; 0 stands for the document itself, whose model is
 // the one place of the document element. A name is an element's number, or 0 for `#PCDATA`.
@@ -14,9 +14,9 @@
 // `facts`: for each element `FACT` numbers. Number x is the largest place of the name x, or 0. The last three
 // are 1 where the start may be omitted, the end may be omitted, and the content is a model.
 //
-// Whatever the tables hold, each function ends and stays within them. Where they are no type's, what
-// `fitting`, `fitting_first`, `takes_data`, `startable` and `inferable` answer is not decided, but that a
-// place is at most 96 and an element at most 64.
+// Whatever the tables hold, each function terminates and stays within them. If they are not those of a type,
+// the results of `fitting`, `fitting_first`, `takes_data`, `startable` and `inferable` are unspecified,
+// except that a place is at most 96 and an element at most 64.
 //
 // Kept: `Place(0)` and `ElementNo(0)` for none: (plainer) the tables have 0 there, and so have the rules
 // (`fits` of their decisions, `required_place`, `inferable`), which the contracts equate with the answers as

@@ -1,9 +1,9 @@
-// What the current element has to say to a start tag or to data: whether it fits, how many starts are
-// inferred before it, and whether the element's end is inferred. Nothing is changed here.
+// How the current element responds to a start tag or to data: whether it fits, how many starts are inferred
+// before it, and whether the element's end is inferred. Nothing is changed here.
 //
 // `t` are the tables of the type, or `facts` the one of them that is asked (crate type_tables). x is the
-// element that starts, or 0 for data. Where the tables are no type's, an answer is not decided, but for the
-// range that its contract has.
+// element that starts, or 0 for data. If the tables are not those of a type, a result is unspecified, except
+// for the range in its contract.
 //
 // Kept: 0 for no chain and `Place(0)` for no place: (plainer) so the rules have it (`chained`, `place_of` in
 // specs/Asks), and `x.0 == 0` for data is a name's number.

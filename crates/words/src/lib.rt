@@ -1,4 +1,4 @@
-// Texts and words compared, folded to upper case.
+// Comparison of texts and words, folded to upper case.
 #![tactic(auto)]
 
 ghost use Rattle.std.specs.Prelude.{◌≡◌, ◌+◌, ◌≤◌, ◌<◌, length, eqb};
